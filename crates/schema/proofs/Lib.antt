@@ -1,0 +1,4 @@
+pub mod Powers
+pub mod Steps
+pub mod ByDepths
+pub mod Told

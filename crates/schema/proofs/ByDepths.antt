@@ -12,12 +12,12 @@ use Rattle.std.specs.Options.{isSome}
 use Rattle.std.specs.shelf.Lists.{All}
 use Rattle.std.proofs.shelf.Tests.{cond-true, cond-false, lt-ltb, le-ltb, le-leb, leb-true, eqb-true, and-from, and-parts, cases-lt}
 use Rattle.std.proofs.shelf.Lists.{length-append}
-use Rattle.tree.specs.Forest.{Forest, Tree, alone, listing, count, Sized, Lists}
+use Rattle.tree.specs.Forest.{Forest, Tree, alone, listing, count, Sized, Lists, IsFlatTree}
 use Rattle.tree.specs.Forest.Forest.{bare, plant}
 use Rattle.schema.specs.declared.element.Element.{Element}
 use Rattle.schema.specs.Elements.{element-span, is-group}
-use Rattle.schema.proofs.Steps.{Known, known-tail, known-sized, length-sized}
-use Rattle.schema.specs.Rows.{is-none, plain-group, kind-kept, named-inside, root-kept, row-kept, deepest-after, may-follow, next-kept, rest-kept, rows-kept, ByDepth, SchemaTree, IsSchema, deeper, depths-of, sized, with-size}
+use Rattle.schema.proofs.Steps.{Known, known-tail, known-sized, length-sized, known-from-kept, kept-from-known}
+use Rattle.schema.specs.Rows.{is-none, plain-group, kind-kept, named-inside, root-kept, row-kept, deepest-after, may-follow, next-kept, rest-kept, rows-kept, ByDepth, SchemaTree, IsSchema, IsFinished, sizes-kept, finished-kept, deeper, depths-of, sized, with-size}
 
 -- From steps to a tree. From the last row back, the trees so far stand one after the other, each root at most as deep as
 -- the root before it; a new row takes those that are deeper as its children.
@@ -205,6 +205,14 @@ deeper-after : (f : Forest Element) (d : ℕ) → ByDepth d f → (xs : List Ele
 deeper-after bare d x xs z = z
 deeper-after (plant e below after) d x xs z = cond-false (ltb d (e .depth)) _ _ (le-ltb d (e .depth) (omega (arith, x .0)))
 
+none-deeper : (d : ℕ) (ds : List ℕ) → deeper d ds ≡ 0 → deeper (d + 1) ds ≡ 0
+none-deeper d [] z = refl
+none-deeper d (y ∷ ds) z =
+    elim (cases-lt d y) [
+      | inl l ↦ absurd (omega (arith, z, cond-true (ltb d y) (deeper d ds + 1) 0 (lt-ltb d y l)))
+      | inr g ↦ cond-false (ltb (d + 1) y) _ _ (le-ltb (d + 1) y (omega (arith, g)))
+    ]
+
 sized-forest : (f : Forest Element) (d : ℕ) → ByDepth d f → (xs : List Element) → deeper d (depths-of xs) ≡ 0 → (zs : List Element) → zs ≡ listing f ++ xs → Known zs → Sized element-span f
 sized-forest bare d x xs z zs e k = tt
 sized-forest (plant e below after) d x xs z zs same k =
@@ -216,20 +224,13 @@ sized-forest (plant e below after) d x xs z zs same k =
     let a = deeper-below below d (d + 1) (x .2) (omega arith) (listing after ++ xs) in
     let b = deeper-after after d (x .3) xs z in
     let c : deeper (e .depth) (depths-of rest) ≡ deeper d (depths-of rest) = ap (λ n. deeper n (depths-of rest)) (x .0) in
-    let low : deeper (d + 1) (depths-of (listing after ++ xs)) ≡ 0 = still-none d (depths-of (listing after ++ xs)) b in
+    let low : deeper (d + 1) (depths-of (listing after ++ xs)) ≡ 0 = none-deeper d (depths-of (listing after ++ xs)) b in
     (
       omega (arith, size, a, b, c),
       sized-forest below (d + 1) (x .2) (listing after ++ xs) low rest refl tail,
       sized-forest after d (x .3) xs z (listing after ++ xs) refl (known-past (listing below) (listing after ++ xs) tail),
     )
   where
-    still-none : (d : ℕ) (ds : List ℕ) → deeper d ds ≡ 0 → deeper (d + 1) ds ≡ 0
-    still-none d [] z = refl
-    still-none d (y ∷ ds) z =
-        elim (cases-lt d y) [
-          | inl l ↦ absurd (omega (arith, z, cond-true (ltb d y) (deeper d ds + 1) 0 (lt-ltb d y l)))
-          | inr g ↦ cond-false (ltb (d + 1) y) _ _ (le-ltb (d + 1) y (omega (arith, g)))
-        ]
     known-past : (ys ws : List Element) → Known (ys ++ ws) → Known ws
     known-past [] ws k = k
     known-past (y ∷ ys) ws k = known-past ys ws (known-tail y (ys ++ ws) k)
@@ -246,7 +247,7 @@ sized-kept bytes (e ∷ es) = ap₂ (λ n b. (leb n 4095 && root-kept bytes e) &
         ap₂ (λ n b. (leb (e .depth) n && row-kept bytes e) && b) a (same bytes (with-size e (deeper (e .depth) (depths-of es) + 1)) e refl refl es)
 
 -- a schema's rows, each with its size, are a flat tree that is the same by depth
-pub sized-tree : (bytes : ℕ) (rows : List Element) → IsSchema bytes rows → (t : Tree Element) × SchemaTree bytes t (sized rows) × Lists element-span (alone t) (sized rows)
+pub sized-tree : (bytes : ℕ) (rows : List Element) → IsSchema bytes rows → IsFinished bytes (sized rows)
 sized-tree bytes rows s =
     let r = tree-from-steps bytes (sized rows) (sized-kept bytes rows ∙ steps-from-tree bytes rows s) in
     (
@@ -257,3 +258,36 @@ sized-tree bytes rows s =
         sized = sized-forest (alone (r .0)) 0 (r .1 .depths) [] refl (sized rows) (sym (r .1 .lists) ∙ sym (append-nil (listing (alone (r .0))))) (known-sized rows);
       },
     )
+
+-- Finished rows, as a test and as a tree.
+
+pub finished-from-kept : (bytes : ℕ) (rows : List Element) → finished-kept bytes rows ≡ true → IsFinished bytes rows
+finished-from-kept bytes rows k =
+    let p = and-parts (rows-kept bytes rows) (sizes-kept rows) k in
+    subst (IsFinished bytes) (sym (known-from-kept rows (p .1))) (sized-tree bytes rows (tree-from-steps bytes rows (p .0)))
+
+known-forest : (f : Forest Element) (d : ℕ) → ByDepth d f → Sized element-span f → (xs : List Element) → deeper d (depths-of xs) ≡ 0 → Known xs → Known (listing f ++ xs)
+known-forest bare d x s xs z k = k
+known-forest (plant e below after) d x s xs z k =
+    let rest : List Element = listing below ++ (listing after ++ xs) in
+    let b = deeper-after after d (x .3) xs z in
+    let low : deeper (d + 1) (depths-of (listing after ++ xs)) ≡ 0 = none-deeper d (depths-of (listing after ++ xs)) b in
+    let tail : Known rest = known-forest below (d + 1) (x .2) (s .1) (listing after ++ xs) low (known-forest after d (x .3) (s .2) xs z k) in
+    let a = deeper-below below d (d + 1) (x .2) (omega arith) (listing after ++ xs) in
+    let c : deeper (e .depth) (depths-of rest) ≡ deeper d (depths-of rest) = ap (λ n. deeper n (depths-of rest)) (x .0) in
+    let size : e .size ≡ deeper (e .depth) (depths-of rest) + 1 = omega (arith, a, b, c, s .0) in
+    let whole : Known (e ∷ rest) = ap₂ (λ n ys. with-size e n ∷ ys) size tail in
+    subst (λ ys. Known (e ∷ ys)) (sym (append-assoc (listing below) (listing after) xs)) whole
+
+pub kept-from-finished : (bytes : ℕ) (rows : List Element) → IsFinished bytes rows → finished-kept bytes rows ≡ true
+kept-from-finished bytes rows (t, s, l) =
+    let known : Known rows = subst Known (append-nil (listing (alone t)) ∙ l .lists) (known-forest (alone t) 0 (s .depths) (l .sized) [] refl refl) in
+    and-from (rows-kept bytes rows) (sizes-kept rows) (steps-from-tree bytes rows (t, s)) (kept-from-known rows known)
+
+-- rows that are no flat tree are no finished schema
+pub not-flat : (bytes : ℕ) (rows : List Element) → (length rows ≤ 4096 → IsFlatTree element-span rows → ⊥) → finished-kept bytes rows ≡ false
+not-flat bytes rows no′ =
+    elim (which (finished-kept bytes rows)) [
+      | inl yes′ ↦ let f = finished-from-kept bytes rows yes′ in absurd (no′ (f .1 .few) (f .0, f .2))
+      | inr e ↦ e
+    ]

@@ -2,17 +2,17 @@
 use Prim.Native.Nat.{ℕ, zero, suc, _+_, _-_, _≤_, _<_}
 use native.Mathlib.Omega.{arith}
 use native.Mathlib.Numerals.{add-one}
-use mathlib.Core.Path.{_≡_, refl, sym, ap, subst, _∙_}
+use mathlib.Core.Path.{_≡_, refl, sym, ap, ap₂, subst, _∙_}
 use mathlib.Core.List.{List, [], _∷_, _++_, map}
 use mathlib.Core.Bool.{Bool, true, false, cond, _&&_}
 use mathlib.Core.Logic.{_⊎_, inl, inr}
-use lib.Dec.{leb, ltb}
+use lib.Dec.{leb, ltb, eqb}
 use lib.ListN.{length, take, drop, set, getD}
-use Rattle.std.proofs.shelf.Tests.{cond-true, cond-false, lt-ltb, le-ltb, le-leb, and-left, and-from, cases-lt}
+use Rattle.std.proofs.shelf.Tests.{cond-true, cond-false, lt-ltb, le-ltb, le-leb, and-left, and-right, and-from, and-parts, eqb-true, eq-eqb, cases-lt}
 use Rattle.std.proofs.shelf.Lists.{drop-more, drop-all, at-drop-more, at-drop-all, length-map, length-drop, drop-drop}
 use Rattle.schema.specs.declared.element.Element.{Element}
 use Rattle.schema.specs.Elements.{empty}
-use Rattle.schema.specs.Rows.{root-kept, row-kept, may-follow, next-kept, rest-kept, rows-kept, deeper, depths-of, sized, with-size}
+use Rattle.schema.specs.Rows.{root-kept, row-kept, may-follow, next-kept, rest-kept, rows-kept, deeper, depths-of, sized, with-size, sizes-kept}
 
 -- Whether rows are a schema.
 
@@ -149,3 +149,36 @@ fill-more i xs ys h e z f =
 pub fill-none : (xs : List Element) → xs ≡ done-from (length xs) xs
 fill-none [] = refl
 fill-none (x ∷ xs) = ap (λ ys. x ∷ ys) (fill-none xs)
+
+-- Rows that tell the sizes that their depths give.
+
+pub known-from-kept : (xs : List Element) → sizes-kept xs ≡ true → Known xs
+known-from-kept [] e = refl
+known-from-kept (x ∷ xs) e =
+    let p = and-parts (eqb (x .size) (deeper (x .depth) (depths-of xs) + 1)) (sizes-kept xs) e in
+    let q = eqb-true (x .size) (deeper (x .depth) (depths-of xs) + 1) (p .0) in
+    let r = known-from-kept xs (p .1) in
+    ap₂ (λ n ys. with-size x n ∷ ys) q r
+
+pub kept-from-known : (xs : List Element) → Known xs → sizes-kept xs ≡ true
+kept-from-known [] e = refl
+kept-from-known (x ∷ xs) e =
+    let q : x .size ≡ deeper (x .depth) (depths-of xs) + 1 = cc in
+    and-from (eqb (x .size) (deeper (x .depth) (depths-of xs) + 1)) (sizes-kept xs) (eq-eqb (x .size) (deeper (x .depth) (depths-of xs) + 1) q) (kept-from-known xs (known-tail x xs e))
+
+-- a wrong size from some row on is a wrong size
+pub sizes-wrong : (i : ℕ) (xs : List Element) → sizes-kept (drop i xs) ≡ false → sizes-kept xs ≡ false
+sizes-wrong zero xs e = e
+sizes-wrong (suc i) [] e = e
+sizes-wrong (suc i) (x ∷ xs) e = and-right (eqb (x .size) (deeper (x .depth) (depths-of xs) + 1)) (sizes-kept xs) (sizes-wrong i xs e)
+
+-- one row more
+pub sizes-step : (i : ℕ) (xs : List Element) → i < length xs → sizes-kept (drop (i + 1) xs) ≡ true → sizes-kept (drop i xs) ≡ eqb (getD xs i empty .size) (deeper (getD xs i empty .depth) (depths-of (drop (i + 1) xs)) + 1)
+sizes-step i xs h e =
+    at-drop-more sizes-kept xs i empty h
+    ∙ ap (λ b. eqb (getD xs i empty .size) (deeper (getD xs i empty .depth) (depths-of (drop (i + 1) xs)) + 1) && b) e
+    ∙ and-true (eqb (getD xs i empty .size) (deeper (getD xs i empty .depth) (depths-of (drop (i + 1) xs)) + 1))
+  where
+    and-true : (b : Bool) → (b && true) ≡ b
+    and-true true = refl
+    and-true false = refl

@@ -10,6 +10,7 @@ use lib.IntN.{ℤ}
 use lib.ListN.{length, take, drop, set}
 use Rattle.std.specs.shelf.Lists.{All}
 use Rattle.std.specs.Options.{isSome}
+use Rattle.std.specs.Orderings.{Decides}
 use Rattle.std.specs.Results.{isOk}
 use Rattle.std.specs.declared.option.Option.{Option}
 use Rattle.std.specs.declared.option.Option.the-variants.{Some, None}
@@ -32,12 +33,12 @@ use Rattle.schema.specs.declared.refusal.Refusal.{Refusal}
 use Rattle.schema.specs.declared.refusal.Refusal.the-variants as no
 use Rattle.schema.specs.Elements.{element-span, empty, end-of, is-group}
 use Rattle.schema.specs.Decimals.{keeps-leaf-rules}
-use Rattle.schema.specs.Rows.{is-none, plain-group, kind-kept, named-inside, root-kept, row-kept, deepest-after, may-follow, next-kept, rest-kept, rows-kept, IsSchema, SchemaTree, sized}
+use Rattle.schema.specs.Rows.{is-none, plain-group, kind-kept, named-inside, root-kept, row-kept, deepest-after, may-follow, next-kept, rest-kept, rows-kept, IsSchema, SchemaTree, sized, finished-kept}
 use Rattle.schema.specs.Words.{Spelled, Words, Event, Call, root-of, element-of, said, fewer, spelled, only-root, later, last-at, Open-in, begins, opens, adds, closes, finishes, lists, converts}
-use Rattle.schema.specs.Posts.{first, or-else, short, shown, shown-as, no-room, long-name, blank, spell-refusal, add-refusal, finish-refusal, back-refusal, Same, Spelt, Shut, Whole, Begun, Opened, Added, Closed, Finished, Finish-means}
+use Rattle.schema.specs.Posts.{first, or-else, short, shown, shown-as, no-room, long-name, blank, spell-refusal, add-refusal, finish-refusal, back-refusal, Same, Spelt, Shut, Whole, Begun, Opened, Added, Closed, Finished, Finish-means, memory-kept, Is-memory}
 use Rattle.schema.specs.Reach.{Held, drafted, whole, count-of, bytes-of, held-after, event, Reached, begun, opened, added, closed, finished, listed, converted, lent, Draft-holds, Schema-holds, Holds, Finish-law}
 use Rattle.schema.proofs.Steps.{length-sized}
-use Rattle.schema.proofs.ByDepths.{tree-from-steps, steps-from-tree, sized-kept, sized-tree}
+use Rattle.schema.proofs.ByDepths.{tree-from-steps, steps-from-tree, sized-kept, sized-tree, finished-from-kept, kept-from-finished}
 
 -- Names that lie inside the bytes in use.
 
@@ -475,3 +476,30 @@ finish-means {d} {els} {ns} (Err e) {els′} o = λ is fits room tree.
     not-memory : (b : Bool) → Some no.Memory ≡ first b no.GroupOpen None → ⊥
     not-memory true x = let z : _≡_ {A = ℕ} 0 1 = cc in omega arith
     not-memory false x = let z : _≡_ {A = ℕ} 0 1 = cc in omega arith
+
+-- Lent memory.
+
+pub memory-decides : (s : Schema) (els : List Element) (ns : List ℕ) (r : Bool) → r ≡ memory-kept s els ns → Decides r (Is-memory s els ns)
+memory-decides s els ns r e = (
+  (λ t.
+      let p = and-parts (not (short (s .count) (s .bytes) els ns)) (finished-kept (s .bytes) (take (s .count) els)) (sym e ∙ t) in
+      let q = or-false (ltb (length els) (s .count)) (ltb (length ns) (s .bytes)) (not-true (short (s .count) (s .bytes) els ns) (p .0)) in
+      record {
+        fits = ltb-false (length els) (s .count) (q .0);
+        room = ltb-false (length ns) (s .bytes) (q .1);
+        tree = finished-from-kept (s .bytes) (take (s .count) els) (p .1);
+      }),
+  (λ m.
+      e ∙ and-from (not (short (s .count) (s .bytes) els ns)) (finished-kept (s .bytes) (take (s .count) els))
+      (ap not (or-from _ _ (le-ltb (length els) (s .count) (m .fits)) (le-ltb (length ns) (s .bytes) (m .room))))
+      (kept-from-finished (s .bytes) (take (s .count) els) (m .tree))),
+)
+  where
+    not-true : (b : Bool) → not b ≡ true → b ≡ false
+    not-true true x = sym x
+    not-true false x = refl
+
+pub memory-law : {h : List Event} {s : Schema} {els : List Element} {ns : List ℕ} → Reached h (whole s) els ns → (r : Bool) → r ≡ memory-kept s els ns → r ≡ true
+memory-law {h} {s} {els} {ns} p r e =
+    let t = reached-tells p in
+    memory-decides s els ns r e .1 (record { fits = t .fits; room = t .room; tree = (t .root, t .tree, t .sizes) })

@@ -22,10 +22,9 @@ use Rattle.schema.specs.declared.element.Kind.{Kind}
 use Rattle.schema.specs.declared.element.Kind.the-variants as k
 use Rattle.schema.specs.declared.refusal.Refusal.{Refusal}
 use Rattle.schema.specs.declared.refusal.Refusal.the-variants as no
-use Rattle.tree.specs.Forest.{Tree, alone, Lists}
-use Rattle.schema.specs.Elements.{element-span, is-group, part}
+use Rattle.schema.specs.Elements.{is-group, part}
 use Rattle.schema.specs.Decimals.{keeps-leaf-rules}
-use Rattle.schema.specs.Rows.{rows-kept, sized, IsSchema, SchemaTree}
+use Rattle.schema.specs.Rows.{rows-kept, sized, IsSchema, IsFinished, finished-kept}
 use Rattle.schema.specs.Words.{Spelled}
 
 -- the refusal that a call answered
@@ -149,5 +148,15 @@ pub record Finished (d : Draft) (els : List Element) (ns : List ℕ) (r : Result
 -- is the number of rows of its subtree; where they were one in memory long enough, it is not refused by 7.
 abbrev pub Finish-means : Draft → List Element → List ℕ → Result Schema (Draft × Refusal) → List Element → Type 0
 Finish-means d els ns (Ok s) els′ =
-    IsSchema (d .bytes) (take (d .count) els) × ((t : Tree Element) × SchemaTree (s .bytes) t (take (s .count) els′) × Lists element-span (alone t) (take (s .count) els′))
+    IsSchema (d .bytes) (take (d .count) els) × IsFinished (s .bytes) (take (s .count) els′)
 Finish-means d els ns (Err e) els′ = e .1 ≡ no.Memory → d .count ≤ length els → d .bytes ≤ length ns → IsSchema (d .bytes) (take (d .count) els) → ⊥
+
+-- Lent memory that is the finished schema which its `Schema` counts: as a test, and in a tree's words.
+
+abbrev pub memory-kept : Schema → List Element → List ℕ → Bool
+memory-kept s els ns = not (short (s .count) (s .bytes) els ns) && finished-kept (s .bytes) (take (s .count) els)
+
+pub record Is-memory (s : Schema) (els : List Element) (ns : List ℕ) : Type 0 where
+  pub fits : s .count ≤ length els
+  pub room : s .bytes ≤ length ns
+  pub tree : IsFinished (s .bytes) (take (s .count) els)

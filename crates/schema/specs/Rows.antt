@@ -9,7 +9,7 @@ use Rattle.std.specs.shelf.Lists.{All}
 use Rattle.std.specs.declared.option.Option.{Option}
 use Rattle.std.specs.declared.option.Option.the-variants.{Some, None}
 use Rattle.std.specs.Options.{isSome}
-use Rattle.tree.specs.Forest.{Forest, Tree, alone, listing}
+use Rattle.tree.specs.Forest.{Forest, Tree, alone, listing, Lists}
 use Rattle.tree.specs.Forest.Forest.{bare, plant}
 use Rattle.schema.specs.declared.basic.Annotation.{Annotation}
 use Rattle.schema.specs.declared.basic.Annotation.the-variants as a
@@ -17,7 +17,7 @@ use Rattle.schema.specs.declared.basic.Repetition.{Repetition}
 use Rattle.schema.specs.declared.element.Element.{Element}
 use Rattle.schema.specs.declared.element.Kind.{Kind}
 use Rattle.schema.specs.declared.element.Kind.the-variants as k
-use Rattle.schema.specs.Elements.{is-group, end-of}
+use Rattle.schema.specs.Elements.{element-span, is-group, end-of}
 use Rattle.schema.specs.Decimals.{keeps-leaf-rules}
 
 -- Records.
@@ -90,6 +90,10 @@ pub record SchemaTree (bytes : ℕ) (t : Tree Element) (rows : List Element) : T
 abbrev pub IsSchema : ℕ → List Element → Type 0
 IsSchema bytes rows = (t : Tree Element) × SchemaTree bytes t rows
 
+-- and every row's size is the number of rows of its subtree
+abbrev pub IsFinished : ℕ → List Element → Type 0
+IsFinished bytes rows = (t : Tree Element) × SchemaTree bytes t rows × Lists element-span (alone t) rows
+
 -- Sizes by depth.
 
 abbrev pub depths-of : List Element → List ℕ
@@ -107,3 +111,12 @@ with-size e n = record { name = e .name; depth = e .depth; repetition = e .repet
 abbrev pub sized : List Element → List Element
 sized [] = []
 sized (e ∷ es) = with-size e (deeper (e .depth) (depths-of es) + 1) ∷ sized es
+
+-- each row tells the size that the depths give
+abbrev pub sizes-kept : List Element → Bool
+sizes-kept [] = true
+sizes-kept (e ∷ es) = eqb (e .size) (deeper (e .depth) (depths-of es) + 1) && sizes-kept es
+
+-- the rows are a finished schema
+abbrev pub finished-kept : ℕ → List Element → Bool
+finished-kept bytes rows = rows-kept bytes rows && sizes-kept rows

@@ -1,7 +1,7 @@
 // Parquet schemas as flat tables: their records, the refusals, and how a schema is drafted and finished.
 mod basic;
+mod check;
 mod decimal;
-
 mod draft;
 mod element;
 mod refusal;

@@ -4,7 +4,7 @@ ghost use mathlib.Core.List.{_++_};
 ghost use Prim.Native.Nat.{ℕ, _+_, _<_, _≤_};
 ghost use lib.ListN.{length, getD, take, drop};
 ghost use Rattle.schema.specs.Elements.{empty};
-ghost use Rattle.schema.specs.Rows.{plain-group, kind-kept, named-inside, root-kept, row-kept, may-follow, next-kept, rows-kept, depths-of, deeper, sized};
+ghost use Rattle.schema.specs.Rows.{plain-group, kind-kept, named-inside, root-kept, row-kept, may-follow, next-kept, rows-kept, depths-of, deeper, sized, sizes-kept};
 use crate::basic::Annotation;
 use crate::element::Element;
 use crate::element::ElementRow;
@@ -108,4 +108,16 @@ pub(crate) fn fill_sizes(rows: &mut [Element])
         let size = end_of_subtree(rows, i) - i;
         rows[i].size = size;
     }
+}
+
+// Whether each row's size is the one that the depths give, from the last row back as above.
+pub(crate) fn keeps_sizes(rows: &[Element]) -> bool
+    ensures { λ r. ⌜ r ≡ sizes-kept (now (rows .entry)) ⌝ }
+{
+    for i in (0..rows.len()).rev() {
+        if rows[i].size != end_of_subtree(rows, i) - i {
+            return false;
+        }
+    }
+    true
 }

@@ -1,0 +1,3 @@
+pub mod Levels
+pub mod Listing
+pub mod Walk

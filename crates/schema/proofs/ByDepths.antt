@@ -11,11 +11,13 @@ use lib.ListN.{length, take, drop, getD}
 use Rattle.std.specs.Options.{isSome}
 use Rattle.std.specs.shelf.Lists.{All}
 use Rattle.std.proofs.shelf.Tests.{cond-true, cond-false, lt-ltb, le-ltb, le-leb, leb-true, eqb-true, and-from, and-parts, cases-lt}
-use Rattle.std.proofs.shelf.Lists.{length-append}
-use Rattle.tree.specs.Forest.{Forest, Tree, alone, listing, count, Sized, Lists, IsFlatTree}
+use Rattle.std.proofs.shelf.Lists.{length-append, getD-append-left, getD-append-right}
+use Rattle.std.proofs.shelf.Elements.{all-getD}
+use Rattle.tree.specs.Forest.{Forest, Tree, alone, listing, count, depth, below-at, size-at, Sized, Lists, IsFlatTree}
 use Rattle.tree.specs.Forest.Forest.{bare, plant}
 use Rattle.schema.specs.declared.element.Element.{Element}
-use Rattle.schema.specs.Elements.{element-span, is-group}
+use Rattle.tree.proofs.Trees.{below-rows}
+use Rattle.schema.specs.Elements.{element-span, empty, is-group}
 use Rattle.schema.proofs.Steps.{Known, known-tail, known-sized, length-sized, known-from-kept, kept-from-known}
 use Rattle.schema.specs.Rows.{is-none, plain-group, kind-kept, named-inside, root-kept, row-kept, deepest-after, may-follow, next-kept, rest-kept, rows-kept, ByDepth, SchemaTree, IsSchema, IsFinished, sizes-kept, finished-kept, deeper, depths-of, sized, with-size}
 
@@ -291,3 +293,72 @@ not-flat bytes rows no′ =
       | inl yes′ ↦ let f = finished-from-kept bytes rows yes′ in absurd (no′ (f .1 .few) (f .0, f .2))
       | inr e ↦ e
     ]
+
+-- Rows and their places in a finished schema's tree.
+
+-- a row's depth is its depth in the tree
+row-deep-from : (f : Forest Element) (d : ℕ) → ByDepth d f → (i : ℕ) → i < count f → getD (listing f) i empty .depth ≡ d + depth f i
+row-deep-from bare d x i h = absurd (omega (arith, h))
+row-deep-from (plant e below after) d x zero h = x .0 ∙ omega arith
+row-deep-from (plant e below after) d x (suc i) h =
+    elim (cases-lt i (count below)) [
+      | inl l ↦ rw (lt-ltb i (count below) l)
+          (ap (λ (y : Element). y .depth) (getD-append-left (listing below) (listing after) empty i l) ∙ row-deep-from below (d + 1) (x .2) i l ∙ omega arith)
+      | inr g ↦
+          let n = length-append (listing below) (listing after) in
+          rw (le-ltb i (count below) g)
+          (ap (λ (y : Element). y .depth) (getD-append-right (listing below) (listing after) (count below) i empty refl g) ∙ row-deep-from after d (x .3) (i - count below) (omega (arith, n, h, g)))
+    ]
+
+-- nothing lies below a leaf
+leaf-bare-from : (f : Forest Element) (d : ℕ) → ByDepth d f → (i : ℕ) → i < count f → is-group (getD (listing f) i empty .kind) ≡ false → below-at f i ≡ bare
+leaf-bare-from bare d x i h k = refl
+leaf-bare-from (plant e below after) d x zero h k = x .1 k
+leaf-bare-from (plant e below after) d x (suc i) h k =
+    elim (cases-lt i (count below)) [
+      | inl l ↦ rw (lt-ltb i (count below) l) (leaf-bare-from below (d + 1) (x .2) i l (ap (λ (y : Element). is-group (y .kind)) (sym (getD-append-left (listing below) (listing after) empty i l)) ∙ k))
+      | inr g ↦
+          let n = length-append (listing below) (listing after) in
+          rw (le-ltb i (count below) g)
+          (leaf-bare-from after d (x .3) (i - count below) (omega (arith, n, h, g)) (ap (λ (y : Element). is-group (y .kind)) (sym (getD-append-right (listing below) (listing after) (count below) i empty refl g)) ∙ k))
+    ]
+
+row-within : (bytes : ℕ) (e : Element) → row-kept bytes e ≡ true → (1 ≤ e .depth) × (e .depth ≤ 64)
+row-within bytes e k =
+    let rest = isSome (e .repetition) && (kind-kept (e .kind) && named-inside bytes e) in
+    let p = and-parts (leb 1 (e .depth)) (leb (e .depth) 64 && rest) k in
+    let q = and-parts (leb (e .depth) 64) rest (p .1) in
+    (leb-true 1 (e .depth) (p .0), leb-true (e .depth) 64 (q .0))
+
+module _ (bytes : ℕ) (rows : List Element) (fin : IsFinished bytes rows) where
+  pub rows-long : count (alone (fin .0)) ≡ length rows
+  rows-long = ap length (fin .1 .lists)
+
+  pub row-depth : (i : ℕ) → i < length rows → getD rows i empty .depth ≡ depth (alone (fin .0)) i
+  row-depth i h =
+      ap (λ xs. getD xs i empty .depth) (sym (fin .1 .lists)) ∙ row-deep-from (alone (fin .0)) 0 (fin .1 .depths) i (omega (arith, h, rows-long)) ∙ omega arith
+
+  pub leaf-size : (i : ℕ) → i < length rows → is-group (getD rows i empty .kind) ≡ false → size-at element-span rows i ≡ 1
+  leaf-size i h k =
+      let none = leaf-bare-from (alone (fin .0)) 0 (fin .1 .depths) i (omega (arith, h, rows-long)) (ap (λ xs. is-group (getD xs i empty .kind)) (fin .1 .lists) ∙ k) in
+      below-rows element-span (alone (fin .0)) rows (fin .2) i h .2 ∙ ap (λ b. suc (count b)) none
+
+  -- the first row is the root
+  pub root-depth : getD rows 0 empty .depth ≡ 0
+  root-depth = ap (λ xs. getD xs 0 empty .depth) (sym (fin .1 .lists)) ∙ fin .1 .depths .0
+
+  -- every row but the first is one below the root
+  pub row-below : (i : ℕ) → suc i < length rows → row-kept bytes (getD rows (suc i) empty) ≡ true
+  row-below i h =
+      let t = fin .0 in
+      let e : getD rows (suc i) empty ≡ getD (listing (t .under)) i empty = ap (λ xs. getD xs (suc i) empty) (sym (fin .1 .lists)) ∙ ap (λ xs. getD xs i empty) (append-nil (listing (t .under))) in
+      ap (row-kept bytes) e ∙ all-getD (λ (x : Element). row-kept bytes x ≡ true) (listing (t .under)) i empty (omega (arith, h, rows-long, length-append (listing (t .under)) [])) (fin .1 .others)
+
+  -- it lies at depth 1 to 64
+  pub depth-within : (i : ℕ) → suc i < length rows → (1 ≤ getD rows (suc i) empty .depth) × (getD rows (suc i) empty .depth ≤ 64)
+  depth-within i h = row-within bytes (getD rows (suc i) empty) (row-below i h)
+
+  -- no row lies deeper than 64
+  pub depth-most : (i : ℕ) → i < length rows → getD rows i empty .depth ≤ 64
+  depth-most zero h = omega (arith, root-depth)
+  depth-most (suc i) h = depth-within i h .1

@@ -1,2 +1,3 @@
 pub mod Paths
 pub mod Writes
+pub mod Tables

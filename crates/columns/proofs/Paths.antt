@@ -148,10 +148,10 @@ module _ (bytes : ℕ) (rows : List Element) (fin : IsFinished bytes rows) where
   listed = fin .2
 
   -- the root's stretch is the whole table
-  some-rows : 0 < length rows
+  pub some-rows : 0 < length rows
   some-rows = omega (arith, rows-long bytes rows fin)
 
-  root-size : size-at element-span rows 0 ≡ length rows
+  pub root-size : size-at element-span rows 0 ≡ length rows
   root-size =
       let b = below-rows element-span forest rows listed 0 some-rows in
       b .2 ∙ omega (arith, rows-long bytes rows fin, length-append (listing (fin .0 .under)) [])

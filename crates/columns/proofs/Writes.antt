@@ -16,8 +16,8 @@ use Rattle.schema.specs.declared.refusal.Refusal.{Refusal}
 use Rattle.schema.specs.Elements.{element-span}
 use Rattle.columns.specs.declared.column.Column.{Column}
 use Rattle.columns.specs.declared.record.PathRecord.{PathRecord}
-use Rattle.columns.specs.declared.list.Done.{Done}
-use Rattle.columns.specs.declared.list.Levels.{Levels}
+use Rattle.columns.specs.declared.leaves.Done.{Done}
+use Rattle.columns.specs.declared.leaves.Levels.{Levels}
 use Rattle.columns.specs.Levels.{row-at, path-of, repeats, may-miss, rep-level, def-level, repeated-def-level, root-of, leaves-in}
 use Rattle.columns.specs.Listing.{walked-path, Restored, column-of, columns-from, path-numbers}
 use Rattle.columns.specs.Walk.{Levels-of, Wrote, Appended, leaves-at, leaves-below}

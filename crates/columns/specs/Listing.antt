@@ -15,7 +15,9 @@ use Rattle.schema.specs.declared.draft.Schema.{Schema}
 use Rattle.schema.specs.declared.element.Element.{Element}
 use Rattle.schema.specs.declared.refusal.Refusal.{Refusal}
 use Rattle.schema.specs.declared.refusal.Refusal.the-variants as no
-use Rattle.schema.specs.Posts.{first, refusal, memory-kept}
+use Rattle.schema.specs.Posts.{first, refusal}
+use Rattle.schema.specs.Reach.{Schema-holds}
+use Rattle.schema.specs.Words.{Event, spelled}
 use Rattle.columns.specs.declared.column.Column.{Column}
 use Rattle.columns.specs.declared.record.PathRecord.{PathRecord}
 use Rattle.columns.specs.Levels.{path-of, rep-level, def-level, repeated-def-level, root-of, leaves-of}
@@ -72,3 +74,13 @@ pub record Listing (kept : Bool) (rows : List Element) (walked : PathRecord) (co
   pub count : Cases r (λ n. n ≡ length (leaves-of rows)) (λ _. Unit {0})
   pub table : columns′ ≡ filled r (columns-from rows 0 (leaves-of rows)) columns empty-column
   pub numbers : paths′ ≡ filled r (path-numbers rows (leaves-of rows)) paths 0
+
+-- the levels of the format, for every element of an accepted listing's schema
+abbrev pub Levels-bounded : List Element → Result ℕ Refusal → Type 0
+Levels-bounded rows (Ok n) = (e : ℕ) → e < length rows → (rep-level rows (path-of rows e) ≤ def-level rows (path-of rows e)) × (def-level rows (path-of rows e) ≤ 64)
+Levels-bounded rows (Err e) = Unit {0}
+
+-- what a listing comes to after any history of calls: the memory holds what was spelled, and it is never refused by 7
+pub record List-law (h : List Event) (s : Schema) (els : List Element) (ns : List ℕ) (walked : PathRecord) (columns paths : ℕ) (r : Result ℕ Refusal) : Type 0 where
+  pub holds : Schema-holds (spelled h) s els ns
+  pub answer : refusal r ≡ list-refusal true (take (s .count) els) walked columns paths

@@ -2,8 +2,10 @@
 -- the tables have room for the leaves to come.
 use Prim.Native.Nat.{ℕ, _+_, _-_, _<_, _≤_}
 use mathlib.Core.Path.{_≡_}
+use mathlib.Core.Bool.{Bool}
 use mathlib.Core.List.{List, [], _∷_, _++_}
 use lib.ListN.{length, take}
+use Rattle.std.specs.Results.{Cases}
 use Rattle.std.specs.declared.option.Option.{Option}
 use Rattle.std.specs.declared.option.Option.the-variants.{Some, None}
 use Rattle.std.specs.declared.result.Result.{Result}
@@ -13,13 +15,14 @@ use Rattle.schema.specs.declared.element.Element.{Element}
 use Rattle.schema.specs.declared.refusal.Refusal.{Refusal}
 use Rattle.schema.specs.declared.refusal.Refusal.the-variants as no
 use Rattle.schema.specs.Elements.{element-span}
+use Rattle.schema.specs.Posts.{refusal}
 use Rattle.schema.specs.Rows.{IsFinished}
 use Rattle.columns.specs.declared.column.Column.{Column}
 use Rattle.columns.specs.declared.record.PathRecord.{PathRecord}
-use Rattle.columns.specs.declared.list.Done.{Done}
-use Rattle.columns.specs.declared.list.Levels.{Levels}
-use Rattle.columns.specs.Levels.{path-of, rep-level, def-level, repeated-def-level, root-of, leaves-in}
-use Rattle.columns.specs.Listing.{walked-path, column-of, columns-from, path-numbers}
+use Rattle.columns.specs.declared.leaves.Done.{Done}
+use Rattle.columns.specs.declared.leaves.Levels.{Levels}
+use Rattle.columns.specs.Levels.{path-of, rep-level, def-level, repeated-def-level, root-of, leaves-in, leaves-of}
+use Rattle.columns.specs.Listing.{walked-path, column-of, columns-from, path-numbers, list-refusal}
 
 -- the levels are those of a path
 pub record Levels-of (rows : List Element) (is : List ℕ) (l : Levels) : Type 0 where
@@ -64,3 +67,20 @@ Appended is n leaf levels root done columns paths columns′ paths′ (Ok d) =
           ++ record { element = leaf; «max_rep_level» = levels .repetition; «max_def_level» = levels .definition; «repeated_def_level» = levels .repeated; root = root; path = record { start = done .numbers; length = n } } ∷ [])
     × (take (d .numbers) paths′ ≡ take (done .numbers) paths ++ is)
 Appended is n leaf levels root done columns paths columns′ paths′ (Err e) = (e ≡ no.PathNumbersFull) × (length paths < done .numbers + n)
+
+-- what the whole walk comes to, before the tables are cleared past what is used
+pub record Walked (kept : Bool) (rows : List Element) (w : PathRecord) (columns : List Column) (paths : List ℕ) (r : Result Done Refusal) (columns′ : List Column) (paths′ : List ℕ) : Type 0 where
+  pub answer : refusal r ≡ list-refusal kept rows w (length columns) (length paths)
+  pub wrote : Cases r
+      (λ d. (d .columns ≡ length (leaves-of rows)) × (d .numbers ≡ length (path-numbers rows (leaves-of rows))) × (d .columns ≤ length columns) × (d .numbers ≤ length paths)
+          × (take (d .columns) columns′ ≡ columns-from rows 0 (leaves-of rows)) × (take (d .numbers) paths′ ≡ path-numbers rows (leaves-of rows)))
+      (λ _. Unit {0})
+
+-- what is used of the tables, nothing where refused
+abbrev pub used-of : Result Done Refusal → Done
+used-of (Ok d) = d
+used-of (Err e) = record { columns = 0; numbers = 0 }
+
+abbrev pub answer-of : Result Done Refusal → Result ℕ Refusal
+answer-of (Ok d) = Ok (d .columns)
+answer-of (Err e) = Err e

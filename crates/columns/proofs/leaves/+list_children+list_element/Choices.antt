@@ -7,7 +7,7 @@ use Rattle.schema.specs.Elements.{element-span}
 use Rattle.columns.specs.Levels.{roots-before, leaves-in}
 use Rattle.columns.specs.Listing.{Restored}
 use Rattle.columns.specs.Walk.{Wrote, place-of}
-use Rattle.columns.proofs.list.+list_children+list_element.Given as given
+use Rattle.columns.proofs.leaves.+list_children+list_element.Given as given
 
 -- the subtree's size falls
 abbrev pub μ-list-children : given.MeasureT-list-children

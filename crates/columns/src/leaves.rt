@@ -1,15 +1,17 @@
 // The listing of a finished schema's leaves.
 ghost use mathlib.Core.Path.{_≡_};
-ghost use mathlib.Core.Bool.{cond};
+ghost use mathlib.Core.Bool.{true, cond};
 ghost use mathlib.Core.List.{List, [], _∷_, _++_};
 ghost use Prim.Native.Nat.{ℕ, _+_, _-_, _<_, _≤_};
 ghost use lib.Dec.{eqb};
 ghost use lib.ListN.{length, getD, take, replicate};
-ghost use Rattle.std.specs.declared.result.Result.the-variants.{Ok};
 ghost use Rattle.schema.specs.Posts.{memory-kept};
+ghost use Rattle.schema.specs.Rows.{IsFinished};
 ghost use Rattle.columns.specs.Levels.{repeats, may-miss, row-at, path-of, root-of, leaves-of};
-ghost use Rattle.columns.specs.Listing.{walked-path, Restored, empty-column, filled, Listing};
-ghost use Rattle.columns.specs.Walk.{Appended, Walking, Wrote, leaves-at, leaves-below};
+ghost use Rattle.columns.specs.Listing.{walked-path, Restored, empty-column, filled, Listing, Levels-bounded, List-law};
+ghost use Rattle.schema.specs.Reach.{Reached, whole};
+ghost use Rattle.schema.specs.Words.{Event};
+ghost use Rattle.columns.specs.Walk.{Appended, Walking, Wrote, leaves-at, leaves-below, Walked, used-of, answer-of};
 use crate::column::Column;
 use crate::column::PathPlace;
 use crate::record::PathRecord;
@@ -157,4 +159,124 @@ fn list_children(
         next = tree.next_sibling(child, parent);
     }
     Ok(so_far)
+}
+
+// How many leaves the rows have.
+fn count_leaves(rows: &[Element]) -> usize
+    ensures { λ r. ⌜ r ≡ length (leaves-of (now (rows .entry))) ⌝ }
+{
+    let mut leaves: usize = 0;
+    for i in 0..rows.len() {
+        if !rows[i].kind.is_group() {
+            leaves += 1;
+        }
+    }
+    leaves
+}
+
+// Walks a finished schema, once the caller's tables have been looked at.
+fn walk_rows(
+    rows: &[Element],
+    columns: &mut [Column],
+    paths: &mut [usize],
+    walked: &mut PathRecord,
+) -> Result<Done, Refusal>
+    requires { ⌜ ((bytes : ℕ) × IsFinished bytes (now rows)) ⌝ }
+    ensures restored { λ _. ⌜ Restored (now (walked .entry)) (now (walked .exit)) ⌝ }
+    ensures walked { λ r. ⌜ Walked true (now (rows .entry)) (now (walked .entry)) (now (columns .entry)) (now (paths .entry)) r (now (columns .exit)) (now (paths .exit)) ⌝ }
+{
+    if columns.len() < count_leaves(rows) {
+        return Err(Refusal::Table);
+    }
+    if walked.len != 0 {
+        return Err(Refusal::Table);
+    }
+    let levels = Levels {
+        repetition: 0,
+        definition: 0,
+        repeated: 0,
+    };
+    let done = Done {
+        columns: 0,
+        numbers: 0,
+    };
+    list_children(rows, 0, levels, 0, walked, columns, paths, done)
+}
+
+// The same, once the memory has been looked at.
+fn walk(
+    schema: &Schema,
+    elements: &[Element],
+    names: &[u8],
+    columns: &mut [Column],
+    paths: &mut [usize],
+    walked: &mut PathRecord,
+) -> Result<Done, Refusal>
+    ensures restored { λ _. ⌜ Restored (now (walked .entry)) (now (walked .exit)) ⌝ }
+    ensures walked { λ r. ⌜ Walked (memory-kept (now (schema .entry)) (now (elements .entry)) (now (names .entry))) (take (now (schema .entry) .count) (now (elements .entry))) (now (walked .entry)) (now (columns .entry)) (now (paths .entry)) r (now (columns .exit)) (now (paths .exit)) ⌝ }
+{
+    if !schema.check(elements, names) {
+        return Err(Refusal::Memory);
+    }
+    let count = schema.elements();
+    walk_rows(&elements[0..count], columns, paths, walked)
+}
+
+fn used(outcome: &Result<Done, Refusal>) -> Done
+    ensures { λ r. ⌜ r ≡ used-of (now (outcome .entry)) ⌝ }
+{
+    match outcome {
+        Ok(done) => *done,
+        Err(_) => Done {
+            columns: 0,
+            numbers: 0,
+        },
+    }
+}
+
+fn answer(outcome: Result<Done, Refusal>) -> Result<usize, Refusal>
+    ensures { λ r. ⌜ r ≡ answer-of outcome ⌝ }
+{
+    match outcome {
+        Ok(done) => Ok(done.columns),
+        Err(refusal) => Err(refusal),
+    }
+}
+
+fn clear_columns(columns: &mut [Column], from: usize)
+    requires { ⌜ from ≤ length (now columns) ⌝ }
+    ensures { λ _. ⌜ now (columns .exit) ≡ take from (now (columns .entry)) ++ replicate (length (now (columns .entry)) - from) empty-column ⌝ }
+{
+    columns[from..].fill(Column::EMPTY);
+}
+
+fn clear_numbers(paths: &mut [usize], from: usize)
+    requires { ⌜ from ≤ length (now paths) ⌝ }
+    ensures { λ _. ⌜ now (paths .exit) ≡ take from (now (paths .entry)) ++ replicate (length (now (paths .entry)) - from) 0 ⌝ }
+{
+    paths[from..].fill(0);
+}
+
+// Lists the leaves of a finished schema, in order: one column for each, and its path in the path numbers, path after
+// path. Past them columns are empty and numbers 0; refused, they are so throughout. The path record has to be empty,
+// and is left as it was on every way out.
+// `law`: after any history of calls the columns are those of the elements that were spelled.
+pub fn list(
+    schema: &Schema,
+    elements: &[Element],
+    names: &[u8],
+    columns: &mut [Column],
+    paths: &mut [usize],
+    walked: &mut PathRecord,
+) -> Result<usize, Refusal>
+    ensures told { λ r. ⌜ Listing (memory-kept (now (schema .entry)) (now (elements .entry)) (now (names .entry))) (take (now (schema .entry) .count) (now (elements .entry))) (now (walked .entry)) (length (now (columns .entry))) (length (now (paths .entry))) r (now (columns .exit)) (now (paths .exit)) ⌝ }
+    ensures restored { λ _. ⌜ Restored (now (walked .entry)) (now (walked .exit)) ⌝ }
+    ensures levels { λ r. ⌜ Levels-bounded (take (now (schema .entry) .count) (now (elements .entry))) r ⌝ }
+    ensures law { λ r. ⌜ ((h : List Event) → Reached h (whole (now (schema .entry))) (now (elements .entry)) (now (names .entry)) → List-law h (now (schema .entry)) (now (elements .entry)) (now (names .entry)) (now (walked .entry)) (length (now (columns .entry))) (length (now (paths .entry))) r) ⌝ }
+{
+    let outcome = walk(schema, elements, names, columns, paths, walked);
+    let done = used(&outcome);
+    clear_columns(columns, done.columns);
+    clear_numbers(paths, done.numbers);
+    answer(outcome)
 }

@@ -24,13 +24,13 @@ use Rattle.schema.specs.declared.element.Element.{Element}
 use Rattle.schema.specs.Elements.{element-span}
 use Rattle.schema.specs.Rows.{IsFinished}
 use Rattle.schema.proofs.ByDepths.{depth-within}
-use Rattle.columns.specs.declared.list.Levels.{Levels}
+use Rattle.columns.specs.declared.leaves.Levels.{Levels}
 use Rattle.columns.specs.Levels.{row-at, path-of, rep-level, def-level, roots-before, root-of, leaves-in}
 use Rattle.columns.specs.Listing.{walked-path, Restored}
 use Rattle.columns.specs.Walk.{Levels-of, Walking, Wrote, leaves-at, leaves-below, place-of}
 use Rattle.columns.proofs.Paths.{path-child, path-long, path-most, leaf-at, group-at, roots-past, first-place, next-place, rep-most, def-most}
 use Rattle.columns.proofs.Writes.{restored-same, restored-on, left, levels-push, root-push, wrote-none, wrote-more, wrote-less, appended-wrote, split-at, split-on}
-use Rattle.columns.proofs.list.+list_children+list_element.Needs as need
+use Rattle.columns.proofs.leaves.+list_children+list_element.Needs as need
 
 -- The children of a parent.
 

@@ -21,7 +21,7 @@ pub struct Place {
 impl Place {
     // The bytes at this place, if it lies inside the memory.
     pub fn read<'a>(&self, memory: &'a [u8]) -> Option<&'a [u8]>
-        ensures bytes { λ r. ⌜ Cases r (end-of (now (self .entry)) ≤ length (now (memory .entry)) → ⊥) (λ s. now s ≡ part (now (memory .entry)) (now (self .entry))) ⌝ }
+        ensures bytes { λ r. ⌜ Cases r (end-of (now (self .entry)) ≤ length (now (memory .entry)) → ⊥) (λ s. (end-of (now (self .entry)) ≤ length (now (memory .entry))) × (now s ≡ part (now (memory .entry)) (now (self .entry)))) ⌝ }
     {
         let length = self.length as usize;
         if self.start > memory.len() || length > memory.len() - self.start {

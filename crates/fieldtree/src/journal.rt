@@ -33,4 +33,10 @@ close
 # What the delivery cost: at most nine digits, two of them after the point.
 add optional int32 0 2 9 decimal decimal(2,9) - fee
 finish
+
+# Each leaf with its highest levels: an attempt's time is there at definition level 3.
+list
+
+# The message and its attempts; there are only 4,096 flags.
+select leaves 0 3 5 4096
 ";

@@ -14,30 +14,38 @@ use schema::LogicalType;
 use schema::PhysicalType;
 use schema::Repetition;
 
-// A command. A name is bytes, whatever they spell.
+// A command, with the line that spells it. One space stands between two words, `-` is what is absent, and a name is the
+// rest of the line, whatever bytes it holds.
 #[derive(Clone, Copy)]
 pub enum Command<'a> {
+    // begin FIELDID NAME
     Begin {
         field_id: Option<i32>,
         name: &'a [u8],
     },
+    // open REPETITION ANNOTATION FIELDID NAME
     Open {
         repetition: Repetition,
         annotation: Annotation,
         field_id: Option<i32>,
         name: &'a [u8],
     },
+    // add REPETITION PHYSICAL LENGTH SCALE PRECISION CONVERTED LOGICAL FIELDID NAME
     Add {
         repetition: Repetition,
         leaf: Leaf,
         field_id: Option<i32>,
         name: &'a [u8],
     },
+    // close
     Close,
+    // finish
     Finish,
+    // list
     List,
+    // select all, select leaves N.., select roots N..
     Select(Select<'a>),
-    // a command that is planned and not there yet
+    // hint, convert or levels, with whatever words: planned, and not there yet
     Planned,
 }
 

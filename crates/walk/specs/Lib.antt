@@ -1,0 +1,16 @@
+pub mod Forests
+pub mod Labels
+pub mod Hints
+pub mod Reading
+pub mod Yields
+pub mod Shape
+pub mod Handing
+pub mod Faults
+pub mod Walk
+pub mod Levels
+pub mod Worked
+pub mod Refusing
+pub mod Fields
+pub mod Published
+pub mod Flat
+pub mod Laws

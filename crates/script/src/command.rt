@@ -1,4 +1,6 @@
 // What a line of a script asks for.
+use crate::hints::HintType;
+use crate::hints::read_type;
 use crate::words::AnnotationFromWord;
 use crate::words::ConvertedTypeFromWord;
 use crate::words::I32FromWord;
@@ -45,7 +47,17 @@ pub enum Command<'a> {
     List,
     // select all, select leaves N.., select roots N..
     Select(Select<'a>),
-    // hint, convert or levels, with whatever words: planned, and not there yet
+    // hint DEPTH NULLABLE METADATA TYPE NAME
+    Hint {
+        depth: usize,
+        nullable: bool,
+        metadata: u32,
+        data_type: HintType<'a>,
+        name: &'a [u8],
+    },
+    // hints
+    Hints,
+    // convert or levels, with whatever words: planned, and not there yet
     Planned,
 }
 
@@ -105,9 +117,32 @@ impl<'a> Command<'a> {
                 Some(Command::List)
             }
             "select" => Command::select(words),
-            "hint" | "convert" | "levels" => Some(Command::Planned),
+            "hint" => Command::hint(words),
+            "hints" => {
+                words.end()?;
+                Some(Command::Hints)
+            }
+            "convert" | "levels" => Some(Command::Planned),
             _ => None,
         }
+    }
+
+    fn hint(mut words: Words<'a>) -> Option<Command<'a>> {
+        let depth = words.number()?;
+        let nullable = match words.word()? {
+            "null" => true,
+            "notnull" => false,
+            _ => return None,
+        };
+        let metadata = u32::try_from(words.number()?).ok()?;
+        let data_type = read_type(words.word()?)?;
+        Some(Command::Hint {
+            depth,
+            nullable,
+            metadata,
+            data_type,
+            name: words.name(),
+        })
     }
 
     fn select(mut words: Words<'a>) -> Option<Command<'a>> {

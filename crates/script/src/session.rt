@@ -4,6 +4,7 @@ ghost use Rattle.script.specs.Leaves.{leaf-count};
 use crate::command::Command;
 use crate::command::Line;
 use crate::command::Select;
+use crate::hints::Hints;
 use crate::show::AnswerDisplay;
 use crate::show::ColumnRow;
 use crate::show::ColumnRowDisplay;
@@ -51,6 +52,10 @@ pub enum Answer {
     Closed { open: u8 },
     Finished { elements: usize, leaves: usize },
     Listed { columns: usize },
+    Hinted { row: usize },
+    Hints { rows: usize },
+    // the program has no more memory for hint rows
+    Short,
     SelectedAll,
     Selected { flagged: usize },
     Refused(Refusal),
@@ -79,6 +84,7 @@ pub struct Session {
     walked: PathRecord,
     selected: Selected,
     flags: Vec<bool>,
+    hints: Hints,
 }
 
 fn count_leaves(rows: &[Element]) -> usize
@@ -104,6 +110,7 @@ impl Session {
             walked: PathRecord::EMPTY,
             selected: Selected::All,
             flags: vec![in heap; false; ELEMENTS]?,
+            hints: Hints::new(heap),
         })
     }
 
@@ -139,6 +146,17 @@ impl Session {
             Command::Close => self.close(),
             Command::Finish => self.finish(),
             Command::List => self.list(),
+            Command::Hint {
+                depth,
+                nullable,
+                metadata,
+                data_type,
+                name,
+            } => match self.hints.push(depth, nullable, metadata, data_type, name) {
+                Ok(row) => Answer::Hinted { row },
+                Err(_) => Answer::Short,
+            },
+            Command::Hints => self.check_hints(),
             Command::Select(Select::All) => self.select_all(),
             Command::Select(Select::Leaves(numbers)) => self.select(Selected::Leaves, numbers),
             Command::Select(Select::Roots(numbers)) => self.select(Selected::Roots, numbers),
@@ -151,6 +169,7 @@ impl Session {
             Ok(draft) => {
                 self.stage = Stage::Drafting(draft);
                 self.selected = Selected::All;
+                self.hints.clear();
                 Answer::Begun
             }
             Err(refusal) => Answer::Refused(refusal),
@@ -261,6 +280,16 @@ impl Session {
         }
     }
 
+    fn check_hints(&mut self) -> Answer {
+        if self.hints.check() {
+            Answer::Hints {
+                rows: self.hints.len(),
+            }
+        } else {
+            Answer::Refused(Refusal::Hint)
+        }
+    }
+
     fn select_all(&mut self) -> Answer {
         self.selected = Selected::All;
         Answer::SelectedAll
@@ -303,6 +332,7 @@ impl Session {
             Answer::Finished { .. } => self.push_rows(heap, &mut text)?,
             Answer::Listed { columns } => self.push_columns(heap, &mut text, columns)?,
             Answer::Selected { .. } => self.push_flags(heap, &mut text, line)?,
+            Answer::Hints { .. } => self.hints.push_rows(heap, &mut text)?,
             _ => {}
         }
         Ok(text)

@@ -45,6 +45,9 @@ pub impl fmt::Display for Answer as AnswerDisplay {
             }
             Answer::Listed { columns } => write!(f, "{columns} columns"),
             Answer::Selected { flagged } => write!(f, "{flagged} flagged"),
+            Answer::Hinted { row } => write!(f, "row {row}"),
+            Answer::Hints { rows } => write!(f, "{rows} rows"),
+            Answer::Short => f.write_str("out of memory"),
             Answer::SelectedAll => f.write_str("all leaves"),
             Answer::NoDraft => f.write_str("no draft"),
             Answer::NoSchema => f.write_str("no schema"),

@@ -42,6 +42,7 @@ counting-append a zero n = ap₂ counting (sym zero-right) zero-left
   where
     zero-right : a + 0 ≡ a
     zero-right = omega arith
+
     zero-left : 0 + n ≡ n
     zero-left = omega arith
 counting-append a (suc m) n =

@@ -64,7 +64,7 @@ abbrev pub Appended : List ℕ → ℕ → ℕ → Levels → ℕ → Done → L
 Appended is n leaf levels root done columns paths columns′ paths′ (Ok d) =
     (d .columns ≡ done .columns + 1) × (d .numbers ≡ done .numbers + n) × (d .numbers ≤ length paths)
     × (take (d .columns) columns′ ≡ take (done .columns) columns
-          ++ record { element = leaf; «max_rep_level» = levels .repetition; «max_def_level» = levels .definition; «repeated_def_level» = levels .repeated; root = root; path = record { start = done .numbers; length = n } } ∷ [])
+    ++ record { element = leaf; «max_rep_level» = levels .repetition; «max_def_level» = levels .definition; «repeated_def_level» = levels .repeated; root = root; path = record { start = done .numbers; length = n } } ∷ [])
     × (take (d .numbers) paths′ ≡ take (done .numbers) paths ++ is)
 Appended is n leaf levels root done columns paths columns′ paths′ (Err e) = (e ≡ no.PathNumbersFull) × (length paths < done .numbers + n)
 
@@ -73,7 +73,7 @@ pub record Walked (kept : Bool) (rows : List Element) (w : PathRecord) (columns 
   pub answer : refusal r ≡ list-refusal kept rows w (length columns) (length paths)
   pub wrote : Cases r
       (λ d. (d .columns ≡ length (leaves-of rows)) × (d .numbers ≡ length (path-numbers rows (leaves-of rows))) × (d .columns ≤ length columns) × (d .numbers ≤ length paths)
-          × (take (d .columns) columns′ ≡ columns-from rows 0 (leaves-of rows)) × (take (d .numbers) paths′ ≡ path-numbers rows (leaves-of rows)))
+      × (take (d .columns) columns′ ≡ columns-from rows 0 (leaves-of rows)) × (take (d .numbers) paths′ ≡ path-numbers rows (leaves-of rows)))
       (λ _. Unit {0})
 
 -- what is used of the tables, nothing where refused

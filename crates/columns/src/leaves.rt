@@ -126,7 +126,16 @@ fn list_element(
     let levels = levels.below(row.repetition);
     let guard = enter(walked, element);
     if row.kind.is_group() {
-        return list_children(rows, element, levels, root, guard.walked, columns, paths, done);
+        return list_children(
+            rows,
+            element,
+            levels,
+            root,
+            guard.walked,
+            columns,
+            paths,
+            done,
+        );
     }
     write_column(guard.walked, element, levels, root, columns, paths, done)
 }

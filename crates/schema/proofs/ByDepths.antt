@@ -86,8 +86,7 @@ rest-falls bytes before (e ∷ es) k =
     let p = and-parts (next-kept bytes before e) (rest-kept bytes e es) k in
     let q = and-parts (may-follow before e) (row-kept bytes e) (p .0) in
     let low : e .depth ≤ deepest-after before = leb-true (e .depth) (deepest-after before) (q .0) in
-    let below = rest-falls bytes e es (p .1) in
-    (
+    let below = rest-falls bytes e es (p .1) in (
       low,
       (λ (g : is-group (e .kind) ≡ false). none-taken (e .depth) (falls es) (subst (λ n. Falling n (falls es)) (leaf-after e g) below)),
       taken-deep (e .depth) (falls es) (deepest-after e) (deepest-most e) below,
@@ -96,6 +95,7 @@ rest-falls bytes before (e ∷ es) k =
   where
     leaf-after : (e : Element) → is-group (e .kind) ≡ false → deepest-after e ≡ e .depth
     leaf-after e g = ap (λ b. e .depth + cond b 1 0) g ∙ omega arith
+
     deepest-most : (e : Element) → deepest-after e ≤ e .depth + 1
     deepest-most e = elim (is-group (e .kind)) as (λ b. e .depth + cond b 1 0 ≤ e .depth + 1) [ true ↦ omega arith | false ↦ omega arith ]
 
@@ -130,8 +130,7 @@ tree-from-steps bytes (e ∷ es) k =
     let y : ByDepth 0 (plant e (taken (e .depth) f) bare) = (top, rest-leaf e f x, subst (λ n. ByDepth (n + 1) (taken (e .depth) f)) top (taken-deep (e .depth) f (deepest-after e) (most e) x), tt) in
     let gone : left (e .depth) f ≡ bare = ap (λ n. left n f) top ∙ all-taken bytes f (deepest-after e) x (subst (All (λ e. row-kept bytes e ≡ true)) (sym (falls-lists es)) a) in
     let same : listing (taken (e .depth) f) ≡ es =
-    sym (append-nil (listing (taken (e .depth) f))) ∙ ap (λ g. listing (taken (e .depth) f) ++ listing g) (sym gone) ∙ taken-left (e .depth) f ∙ falls-lists es in
-    (
+    sym (append-nil (listing (taken (e .depth) f))) ∙ ap (λ g. listing (taken (e .depth) f) ++ listing g) (sym gone) ∙ taken-left (e .depth) f ∙ falls-lists es in (
       record { root = e; under = taken (e .depth) f },
       record {
         lists = ap (λ xs. e ∷ xs) (append-nil (listing (taken (e .depth) f)) ∙ same);
@@ -144,6 +143,7 @@ tree-from-steps bytes (e ∷ es) k =
   where
     most : (e : Element) → deepest-after e ≤ e .depth + 1
     most e = elim (is-group (e .kind)) as (λ b. e .depth + cond b 1 0 ≤ e .depth + 1) [ true ↦ omega arith | false ↦ omega arith ]
+
     rest-leaf : (e : Element) (f : Forest Element) → Falling (deepest-after e) f → is-group (e .kind) ≡ false → taken (e .depth) f ≡ bare
     rest-leaf e f x g = none-taken (e .depth) f (subst (λ n. Falling n f) (ap (λ b. e .depth + cond b 1 0) g ∙ omega arith) x)
 
@@ -169,9 +169,9 @@ module _ (bytes : ℕ) where
       let first : next-kept bytes before e ≡ true = and-from _ _ (le-leb (e .depth) (deepest-after before) (omega (arith, x .0, h))) (a .0) in
       let then : (q : Element) → (q ≡ e) ⊎ (d + 1 ≤ q .depth) → rest-kept bytes q (listing after ++ rest) ≡ true =
       λ q s.
-          let deep : d ≤ q .depth = elim s [ inl same ↦ omega (arith, ap (λ (y : Element). y .depth) same, x .0) | inr more ↦ omega (arith, more) ] in
-          steps after d (x .3) (parts .1) q (omega (arith, deep)) rest
-          (λ z w. on z (elim w [ inl same ↦ inr (omega (arith, ap (λ (y : Element). y .depth) same, deep)) | inr more ↦ inr more ])) in
+      let deep : d ≤ q .depth = elim s [ inl same ↦ omega (arith, ap (λ (y : Element). y .depth) same, x .0) | inr more ↦ omega (arith, more) ] in
+      steps after d (x .3) (parts .1) q (omega (arith, deep)) rest
+      (λ z w. on z (elim w [ inl same ↦ inr (omega (arith, ap (λ (y : Element). y .depth) same, deep)) | inr more ↦ inr more ])) in
       let under : rest-kept bytes e (listing below ++ (listing after ++ rest)) ≡ true =
       elim (which (is-group (e .kind))) [
         | inl group ↦ steps below (d + 1) (x .2) (parts .0) e (omega (arith, x .0, ap (λ b. e .depth + cond b 1 0) group)) (listing after ++ rest) then
@@ -226,8 +226,7 @@ sized-forest (plant e below after) d x xs z zs same k =
     let a = deeper-below below d (d + 1) (x .2) (omega arith) (listing after ++ xs) in
     let b = deeper-after after d (x .3) xs z in
     let c : deeper (e .depth) (depths-of rest) ≡ deeper d (depths-of rest) = ap (λ n. deeper n (depths-of rest)) (x .0) in
-    let low : deeper (d + 1) (depths-of (listing after ++ xs)) ≡ 0 = none-deeper d (depths-of (listing after ++ xs)) b in
-    (
+    let low : deeper (d + 1) (depths-of (listing after ++ xs)) ≡ 0 = none-deeper d (depths-of (listing after ++ xs)) b in (
       omega (arith, size, a, b, c),
       sized-forest below (d + 1) (x .2) (listing after ++ xs) low rest refl tail,
       sized-forest after d (x .3) xs z (listing after ++ xs) refl (known-past (listing below) (listing after ++ xs) tail),
@@ -251,8 +250,7 @@ sized-kept bytes (e ∷ es) = ap₂ (λ n b. (leb n 4095 && root-kept bytes e) &
 -- a schema's rows, each with its size, are a flat tree that is the same by depth
 pub sized-tree : (bytes : ℕ) (rows : List Element) → IsSchema bytes rows → IsFinished bytes (sized rows)
 sized-tree bytes rows s =
-    let r = tree-from-steps bytes (sized rows) (sized-kept bytes rows ∙ steps-from-tree bytes rows s) in
-    (
+    let r = tree-from-steps bytes (sized rows) (sized-kept bytes rows ∙ steps-from-tree bytes rows s) in (
       r .0,
       r .1,
       record {

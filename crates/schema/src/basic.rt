@@ -68,10 +68,22 @@ pub enum LogicalType {
     Uuid,
     Float16,
     Date,
-    Decimal { scale: i32, precision: i32 },
-    Integer { bit_width: i8, is_signed: bool },
-    Time { is_adjusted_to_utc: bool, unit: TimeUnit },
-    Timestamp { is_adjusted_to_utc: bool, unit: TimeUnit },
+    Decimal {
+        scale: i32,
+        precision: i32,
+    },
+    Integer {
+        bit_width: i8,
+        is_signed: bool,
+    },
+    Time {
+        is_adjusted_to_utc: bool,
+        unit: TimeUnit,
+    },
+    Timestamp {
+        is_adjusted_to_utc: bool,
+        unit: TimeUnit,
+    },
 }
 
 // The annotation of a group.

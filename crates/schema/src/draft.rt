@@ -141,7 +141,14 @@ impl Draft {
             groups: 0,
         };
         draft.room(elements, names, name)?;
-        draft.spell(elements, names, name, None, field_id, Kind::Group(Annotation::None));
+        draft.spell(
+            elements,
+            names,
+            name,
+            None,
+            field_id,
+            Kind::Group(Annotation::None),
+        );
         Ok(draft)
     }
 
@@ -158,7 +165,14 @@ impl Draft {
         ensures told { λ r. ⌜ Opened (now (name .entry)) repetition annotation «field_id» (now (self .entry)) (now (elements .entry)) (now (names .entry)) r (now (self .exit)) (now (elements .exit)) (now (names .exit)) ⌝ }
     {
         self.room(elements, names, name)?;
-        Ok(self.spell(elements, names, name, Some(repetition), field_id, Kind::Group(annotation)))
+        Ok(self.spell(
+            elements,
+            names,
+            name,
+            Some(repetition),
+            field_id,
+            Kind::Group(annotation),
+        ))
     }
 
     // Spells a leaf, and answers its number.
@@ -177,7 +191,14 @@ impl Draft {
         if !leaf.keeps_rules() {
             return Err(Refusal::LeafRule);
         }
-        Ok(self.spell(elements, names, name, Some(repetition), field_id, Kind::Leaf(leaf)))
+        Ok(self.spell(
+            elements,
+            names,
+            name,
+            Some(repetition),
+            field_id,
+            Kind::Leaf(leaf),
+        ))
     }
 
     // Closes the group that was opened last.

@@ -79,7 +79,10 @@ pub struct Element {
 impl Element {
     // A row to fill element memory with before it is lent.
     pub const EMPTY: Element = Element {
-        name: Place { start: 0, length: 0 },
+        name: Place {
+            start: 0,
+            length: 0,
+        },
         depth: 0,
         repetition: None,
         field_id: None,

@@ -39,7 +39,10 @@ fn is_inside(element: &Element, bytes: usize) -> bool
 fn keeps_root(element: &Element, bytes: usize) -> bool
     ensures { λ r. ⌜ r ≡ root-kept bytes (now (element .entry)) ⌝ }
 {
-    element.depth == 0 && element.repetition.is_none() && is_plain(&element.kind) && is_inside(element, bytes)
+    element.depth == 0
+        && element.repetition.is_none()
+        && is_plain(&element.kind)
+        && is_inside(element, bytes)
 }
 
 // Whether the row may stand below the root.

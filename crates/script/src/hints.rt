@@ -200,9 +200,18 @@ pub impl fmt::Display for TypeWord<'_> as TypeWordDisplay {
             ArrowType::Duration(unit) => write!(f, "duration({})", unit_word(unit)),
             ArrowType::Interval(unit) => write!(f, "interval({})", interval_word(unit)),
             ArrowType::Timestamp(unit, Zone::Absent) => write!(f, "timestamp({})", unit_word(unit)),
-            ArrowType::Timestamp(unit, Zone::Utc) => write!(f, "timestamp({},UTC)", unit_word(unit)),
+            ArrowType::Timestamp(unit, Zone::Utc) => write!(
+                f,
+                "timestamp({},UTC)",
+                unit_word(unit)
+            ),
             ArrowType::Timestamp(unit, Zone::Text(place)) => {
-                write!(f, "timestamp({},{})", unit_word(unit), Text(place_of(self.text, place)))
+                write!(
+                    f,
+                    "timestamp({},{})",
+                    unit_word(unit),
+                    Text(place_of(self.text, place))
+                )
             }
             ArrowType::Decimal32(p, s) => write!(f, "decimal32({p},{s})"),
             ArrowType::Decimal64(p, s) => write!(f, "decimal64({p},{s})"),
@@ -266,13 +275,14 @@ impl Hints {
             HintType::Plain(data_type) => data_type,
             HintType::Zoned(unit, zone) => ArrowType::Timestamp(unit, Zone::Text(self.lay(zone)?)),
         };
-        self.rows.push(HintRow {
-            name,
-            data_type,
-            nullable,
-            metadata,
-            size: 1,
-        })?;
+        self.rows
+            .push(HintRow {
+                name,
+                data_type,
+                nullable,
+                metadata,
+                size: 1,
+            })?;
         self.depths.push(depth)?;
         Ok(number)
     }
@@ -318,7 +328,10 @@ impl Hints {
                 text: &self.text,
             };
             let name = Text(place_of(&self.text, row.name));
-            let line = format!(heap, "  hint {number} size={size} null={null} type={word} meta={metadata} {name}\n")?;
+            let line = format!(
+                heap,
+                "  hint {number} size={size} null={null} type={word} meta={metadata} {name}\n"
+            )?;
             text.push_str(line.as_str())?;
         }
         Ok(())

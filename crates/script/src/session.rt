@@ -338,7 +338,12 @@ impl Session {
         Ok(text)
     }
 
-    fn push_columns(&self, heap: Global, text: &mut String, count: usize) -> Result<(), AllocError> {
+    fn push_columns(
+        &self,
+        heap: Global,
+        text: &mut String,
+        count: usize,
+    ) -> Result<(), AllocError> {
         for (number, column) in self.columns.iter().take(count).enumerate() {
             let start = column.path.start;
             let end = start.saturating_add(column.path.length);
@@ -357,10 +362,15 @@ impl Session {
         let mut words = Words::new(line);
         for _ in line {
             if let Some(number) = words.number() {
-                match self.flags.get(number).copied() {
-                    Some(_) => text.push_str(format!(heap, "  flag {number}\n")?.as_str())?,
-                    None => text.push_str(format!(heap, "  flag {number}: refused 24\n")?.as_str())?,
-                }
+                let row = match self.flags.get(number).copied() {
+                    Some(true) => format!(heap, "  flag {number}\n")?,
+                    _ => format!(
+                        heap,
+                        "  flag {number}: {}\n",
+                        Answer::Refused(Refusal::FlagOutside)
+                    )?,
+                };
+                text.push_str(row.as_str())?;
             }
         }
         Ok(())

@@ -134,7 +134,11 @@ pub impl fmt::Display for ColumnRow<'_> as ColumnRowDisplay {
             "column {} element={} rep={} def={} ",
             self.number, self.column.element, self.column.max_rep_level, self.column.max_def_level
         )?;
-        write!(f, "repeated_def={} root={} path=", self.column.repeated_def_level, self.column.root)?;
+        write!(
+            f,
+            "repeated_def={} root={} path=",
+            self.column.repeated_def_level, self.column.root
+        )?;
         for (i, number) in self.path.iter().enumerate() {
             if i > 0 {
                 f.write_char('.')?;

@@ -3,7 +3,7 @@ use mathlib.Core.List.{List, [], _∷_}
 use mathlib.Core.Bool.{Bool, true, false}
 use Prim.Native.Nat.{ℕ, zero, suc}
 use lib.IntN.{ℤ}
-use Rattle.arrow.specs.Convert.{converted}
+use Rattle.arrow.specs.Convert.{converted-leaf}
 use Rattle.arrow.specs.declared.hint.HintRow.{HintRow}
 use Rattle.arrow.specs.declared.row.Metadata.{Metadata}
 use Rattle.arrow.specs.declared.types.ArrowType.{ArrowType}
@@ -165,7 +165,7 @@ module _ (typing : Typing) (chosen : ℕ → Bool) where
 
 -- the Arrow type of a leaf by its annotations, under a hint that is a row of the table
 abbrev pub leaf-typing : List HintRow → List ℕ → Typing
-leaf-typing table text l hint = converted l table text (hint-row hint)
+leaf-typing table text l hint = converted-leaf l table text (hint-row hint)
 
 -- the walk under hint rows that list these trees, over a hint text; no rows, no hint
 abbrev pub walk-under : List ℕ → Forest HintRow → (ℕ → Bool) → Tree Spelled → Result (Forest Full) Refusal

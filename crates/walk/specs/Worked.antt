@@ -8,7 +8,6 @@ use lib.Dec.{eqb}
 use lib.IntN.{ℤ, pos}
 use Prim.Native.String.{String}
 use Rattle.std.specs.Joined.{joined}
-use Rattle.arrow.specs.Convert.{converted}
 use Rattle.arrow.specs.declared.hint.HintRow.{HintRow}
 use Rattle.arrow.specs.declared.row.Metadata.{Metadata}
 use Rattle.arrow.specs.declared.types.ArrowType.{ArrowType}

@@ -41,8 +41,21 @@ fn most_elements(rt: LibcRuntime) -> Result<(), Fail> {
         }
     }
     check_eq(accepted, 4095)?;
-    check_eq(refused(draft.add(rows, names, b"", Repetition::Required, FLAG, None)), 1)?;
-    check_eq(refused(draft.open(rows, names, b"", Repetition::Required, Annotation::None, None)), 1)?;
+    check_eq(
+        refused(draft.add(rows, names, b"", Repetition::Required, FLAG, None)),
+        1,
+    )?;
+    check_eq(
+        refused(draft.open(
+            rows,
+            names,
+            b"",
+            Repetition::Required,
+            Annotation::None,
+            None,
+        )),
+        1,
+    )?;
     match draft.finish(rows, names) {
         Ok(schema) => check_eq(schema.elements(), 4096),
         Err(_) => Err(Fail::new("finish")),
@@ -53,20 +66,76 @@ fn most_elements(rt: LibcRuntime) -> Result<(), Fail> {
 fn full_memories() -> Result<(), Fail> {
     let mut elements = [Element::EMPTY; 2];
     let mut names = [7; 4];
-    check_eq(refused(Draft::begin(&mut elements[0..0], &mut names, b"", None)), 1)?;
-    check_eq(refused(Draft::begin(&mut elements, &mut names, b"12345", None)), 3)?;
+    check_eq(
+        refused(Draft::begin(&mut elements[0..0], &mut names, b"", None)),
+        1,
+    )?;
+    check_eq(
+        refused(Draft::begin(&mut elements, &mut names, b"12345", None)),
+        3,
+    )?;
     check_eq(names, [7, 7, 7, 7])?;
     let Ok(mut draft) = Draft::begin(&mut elements, &mut names, b"ab", Some(-3)) else {
         return Err(Fail::new("begin"));
     };
-    check_eq(refused(draft.add(&mut elements, &mut names, b"xyz", Repetition::Required, FLAG, None)), 3)?;
-    check_eq(refused(draft.add(&mut elements, &mut names, b"xy", Repetition::Required, FLAG, None)), 0)?;
+    check_eq(
+        refused(draft.add(
+            &mut elements,
+            &mut names,
+            b"xyz",
+            Repetition::Required,
+            FLAG,
+            None,
+        )),
+        3,
+    )?;
+    check_eq(
+        refused(draft.add(
+            &mut elements,
+            &mut names,
+            b"xy",
+            Repetition::Required,
+            FLAG,
+            None,
+        )),
+        0,
+    )?;
     check_eq(names, *b"abxy")?;
     // the element memory comes before the name memory
-    check_eq(refused(draft.add(&mut elements, &mut names, b"z", Repetition::Required, FLAG, None)), 1)?;
+    check_eq(
+        refused(draft.add(
+            &mut elements,
+            &mut names,
+            b"z",
+            Repetition::Required,
+            FLAG,
+            None,
+        )),
+        1,
+    )?;
     // shorter memory than is in use comes first of all
-    check_eq(refused(draft.add(&mut elements[0..1], &mut names, b"z", Repetition::Required, FLAG, None)), 7)?;
-    check_eq(refused(draft.add(&mut elements, &mut names[0..3], b"z", Repetition::Required, FLAG, None)), 7)?;
+    check_eq(
+        refused(draft.add(
+            &mut elements[0..1],
+            &mut names,
+            b"z",
+            Repetition::Required,
+            FLAG,
+            None,
+        )),
+        7,
+    )?;
+    check_eq(
+        refused(draft.add(
+            &mut elements,
+            &mut names[0..3],
+            b"z",
+            Repetition::Required,
+            FLAG,
+            None,
+        )),
+        7,
+    )?;
     check_eq(elements[0].field_id, Some(-3))?;
     check_eq(elements[1].depth, 1)
 }
@@ -80,11 +149,27 @@ fn deepest(rt: LibcRuntime) -> Result<(), Fail> {
         return Err(Fail::new("begin"));
     };
     for _ in 0..64 {
-        check_eq(refused(draft.open(rows, names, b"", Repetition::Optional, Annotation::None, None)), 0)?;
+        check_eq(
+            refused(draft.open(
+                rows,
+                names,
+                b"",
+                Repetition::Optional,
+                Annotation::None,
+                None,
+            )),
+            0,
+        )?;
     }
-    check_eq(refused(draft.add(rows, names, b"", Repetition::Required, FLAG, None)), 2)?;
+    check_eq(
+        refused(draft.add(rows, names, b"", Repetition::Required, FLAG, None)),
+        2,
+    )?;
     check_eq(refused(draft.close()), 0)?;
-    check_eq(refused(draft.add(rows, names, b"", Repetition::Required, FLAG, None)), 0)?;
+    check_eq(
+        refused(draft.add(rows, names, b"", Repetition::Required, FLAG, None)),
+        0,
+    )?;
     let draft = match draft.finish(rows, names) {
         Ok(_) => return Err(Fail::new("a group is open")),
         Err(back) => {

@@ -23,13 +23,55 @@ fn finish(draft: Draft, elements: &mut [Element], names: &[u8]) -> Result<Schema
 // MAP), f (repeated), k, v (optional); and a repeated leaf at the root.
 fn nested(elements: &mut [Element], names: &mut [u8]) -> Result<Schema, Refusal> {
     let mut draft = Draft::begin(elements, names, b"root", None)?;
-    draft.open(elements, names, b"m", Repetition::Optional, Annotation::Map, None)?;
-    draft.open(elements, names, b"e", Repetition::Repeated, Annotation::None, None)?;
+    draft.open(
+        elements,
+        names,
+        b"m",
+        Repetition::Optional,
+        Annotation::Map,
+        None,
+    )?;
+    draft.open(
+        elements,
+        names,
+        b"e",
+        Repetition::Repeated,
+        Annotation::None,
+        None,
+    )?;
     draft.add(elements, names, b"key", Repetition::Required, FLAG, None)?;
-    draft.open(elements, names, b"value", Repetition::Optional, Annotation::List, None)?;
-    draft.open(elements, names, b"l", Repetition::Repeated, Annotation::None, None)?;
-    draft.open(elements, names, b"element", Repetition::Optional, Annotation::Map, None)?;
-    draft.open(elements, names, b"f", Repetition::Repeated, Annotation::None, None)?;
+    draft.open(
+        elements,
+        names,
+        b"value",
+        Repetition::Optional,
+        Annotation::List,
+        None,
+    )?;
+    draft.open(
+        elements,
+        names,
+        b"l",
+        Repetition::Repeated,
+        Annotation::None,
+        None,
+    )?;
+    draft.open(
+        elements,
+        names,
+        b"element",
+        Repetition::Optional,
+        Annotation::Map,
+        None,
+    )?;
+    draft.open(
+        elements,
+        names,
+        b"f",
+        Repetition::Repeated,
+        Annotation::None,
+        None,
+    )?;
     draft.add(elements, names, b"k", Repetition::Required, FLAG, None)?;
     draft.add(elements, names, b"v", Repetition::Optional, FLAG, None)?;
     for _ in 0..6 {
@@ -57,7 +99,14 @@ fn nestings() -> Result<(), Fail> {
     let mut columns = [Column::EMPTY; 5];
     let mut paths = [9; 22];
     let mut walked = PathRecord::EMPTY;
-    let answer = list(&schema, &elements, &names, &mut columns, &mut paths, &mut walked);
+    let answer = list(
+        &schema,
+        &elements,
+        &names,
+        &mut columns,
+        &mut paths,
+        &mut walked,
+    );
     check_eq(answer.ok(), Some(4))?;
     let [key, k, v, last, none] = columns;
     check(is(key, 3, 1, 2, 2, 0))?;
@@ -65,13 +114,44 @@ fn nestings() -> Result<(), Fail> {
     check(is(v, 9, 3, 7, 6, 0))?;
     check(is(last, 10, 1, 1, 1, 1))?;
     check(is(none, 0, 0, 0, 0, 0))?;
-    check_eq(paths, [1, 2, 3, 1, 2, 4, 5, 6, 7, 8, 1, 2, 4, 5, 6, 7, 9, 10, 0, 0, 0, 0])?;
+    check_eq(
+        paths,
+        [
+            1,
+            2,
+            3,
+            1,
+            2,
+            4,
+            5,
+            6,
+            7,
+            8,
+            1,
+            2,
+            4,
+            5,
+            6,
+            7,
+            9,
+            10,
+            0,
+            0,
+            0,
+            0,
+        ],
+    )?;
     check_eq(v.path.start, 10)?;
     check_eq(walked.len, 0)
 }
 
 // The same listing into tables of these lengths.
-fn listed(columns: &mut [Column], paths: &mut [usize], walked: &mut PathRecord, broken: bool) -> Result<usize, Refusal> {
+fn listed(
+    columns: &mut [Column],
+    paths: &mut [usize],
+    walked: &mut PathRecord,
+    broken: bool,
+) -> Result<usize, Refusal> {
     let elements: &mut [Element] = &mut [Element::EMPTY; 11];
     let names: &mut [u8] = &mut [0; 32];
     let schema = nested(elements, names)?;
@@ -88,12 +168,18 @@ fn tables_too_short() -> Result<(), Fail> {
     let mut walked = PathRecord::EMPTY;
     check_eq(refused(listed(columns, paths, &mut walked, false)), 0)?;
     // one short: 23 for the path numbers, and everything is empty
-    check_eq(refused(listed(columns, &mut paths[0..17], &mut walked, false)), 23)?;
+    check_eq(
+        refused(listed(columns, &mut paths[0..17], &mut walked, false)),
+        23,
+    )?;
     check_eq(columns[0].element, 0)?;
     check_eq(paths[0], 0)?;
     check_eq(paths[17], 10)?;
     // 9 for the columns
-    check_eq(refused(listed(&mut columns[0..3], paths, &mut walked, false)), 9)?;
+    check_eq(
+        refused(listed(&mut columns[0..3], paths, &mut walked, false)),
+        9,
+    )?;
     check_eq(paths[17], 0)
 }
 
@@ -131,9 +217,22 @@ fn root_alone_and_deepest(rt: LibcRuntime) -> Result<(), Fail> {
         return Err(Fail::new("begin"));
     };
     for _ in 0..63 {
-        check_eq(refused(draft.open(rows, names, b"", Repetition::Repeated, Annotation::None, None)), 0)?;
+        check_eq(
+            refused(draft.open(
+                rows,
+                names,
+                b"",
+                Repetition::Repeated,
+                Annotation::None,
+                None,
+            )),
+            0,
+        )?;
     }
-    check_eq(refused(draft.add(rows, names, b"", Repetition::Optional, FLAG, None)), 0)?;
+    check_eq(
+        refused(draft.add(rows, names, b"", Repetition::Optional, FLAG, None)),
+        0,
+    )?;
     for _ in 0..63 {
         check_eq(refused(draft.close()), 0)?;
     }

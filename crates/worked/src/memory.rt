@@ -7,8 +7,8 @@ use schema::Draft;
 use schema::Element;
 use schema::Kind;
 use schema::Leaf;
-use schema::Place;
 use schema::PhysicalType;
+use schema::Place;
 use schema::Refusal;
 use schema::Repetition;
 use schema::Schema;
@@ -17,7 +17,14 @@ use std::test::*;
 // A root, a group with one leaf, and one leaf more.
 fn draft(elements: &mut [Element], names: &mut [u8]) -> Result<Draft, Refusal> {
     let mut draft = Draft::begin(elements, names, b"root", None)?;
-    draft.open(elements, names, b"group", Repetition::Optional, Annotation::None, None)?;
+    draft.open(
+        elements,
+        names,
+        b"group",
+        Repetition::Optional,
+        Annotation::None,
+        None,
+    )?;
     draft.add(elements, names, b"in", Repetition::Required, FLAG, None)?;
     draft.close()?;
     draft.add(elements, names, b"out", Repetition::Required, FLAG, None)?;
@@ -32,7 +39,13 @@ fn finished(elements: &mut [Element], names: &mut [u8]) -> Result<Schema, Refusa
 }
 
 // Whether the check accepts the rows with one of them changed.
-fn accepts(schema: &Schema, elements: &[Element; 4], names: &[u8], at: usize, row: Element) -> bool {
+fn accepts(
+    schema: &Schema,
+    elements: &[Element; 4],
+    names: &[u8],
+    at: usize,
+    row: Element,
+) -> bool {
     let mut rows = *elements;
     if at < 4 {
         rows[at] = row;

@@ -68,8 +68,7 @@ list-children-loop-next-holds t c =
     let place : place-of rows p r ≡ p + 1 =
     ap (place-of rows p) (first-in-tree element-span (alone (fin .0)) rows (fin .2) p r told) ∙ first-place bytes rows fin p (c .pre .parent) in
     let ends = ends-within element-span (alone (fin .0)) rows (fin .2) p (c .pre .parent) in
-    let none : leaves-in rows (p + 1) (place-of rows p r - (p + 1)) ≡ [] = ap (leaves-in rows (p + 1)) (let z : place-of rows p r - (p + 1) ≡ 0 = omega (arith, place) in z) in
-    (
+    let none : leaves-in rows (p + 1) (place-of rows p r - (p + 1)) ≡ [] = ap (leaves-in rows (p + 1)) (let z : place-of rows p r - (p + 1) ≡ 0 = omega (arith, place) in z) in (
       walk-none element-span rows p r told,
       restored-same (c .args .walked .now),
       (omega (arith, place), omega (arith, place, ends .0)),
@@ -102,8 +101,7 @@ list-children-list-element-requires t c κs =
     let small : 2 * size-at element-span rows k + 1 < 2 * size-at element-span rows p = omega (arith, x .after, x .ends) in
     let split = split-at rows p k (size-at element-span rows k) (omega (arith, x .after)) (x .ends) in
     let wrote : Wrote rows (leaves-in rows (p + 1) (k - (p + 1))) (c .args .done) (c .args .columns .now) (c .args .paths .now) (c .loop-next .columns) (c .loop-next .paths) (Ok (c .loop-next .so-far)) =
-    subst (λ m. Wrote rows (leaves-in rows (p + 1) (m - (p + 1))) (c .args .done) (c .args .columns .now) (c .args .paths .now) (c .loop-next .columns) (c .loop-next .paths) (Ok (c .loop-next .so-far))) at (c .loop-next .inv .4) in
-    (
+    subst (λ m. Wrote rows (leaves-in rows (p + 1) (m - (p + 1))) (c .args .done) (c .args .columns .now) (c .args .paths .now) (c .loop-next .columns) (c .loop-next .paths) (Ok (c .loop-next .so-far))) at (c .loop-next .inv .4) in (
       (let m = c .measured in omega (arith, m, small)),
       (
         record {
@@ -119,7 +117,7 @@ list-children-list-element-requires t c κs =
           (
             x .path ∙ ap (λ is. is ++ k ∷ []) (sym same),
             child-root rows bytes fin p (c .loop-next .number) k (c .args .root) (c .root-number-root .result) (c .pre .parent) x (c .root-number-root .ensures)
-            (λ e. c .loop-next .inv .3 e ∙ ap (roots-before rows) at) (c .pre .root),
+                (λ e. c .loop-next .inv .3 e ∙ ap (roots-before rows) at) (c .pre .root),
           ),
         ),
       ),
@@ -161,16 +159,15 @@ list-children-loop-next-again t c =
     let place : place-of rows p r ≡ k + z =
     ap (place-of rows p) (next-in-tree element-span (alone (fin .0)) rows (fin .2) k p r told n (x .child)) ∙ next-place bytes rows fin p n k (c .pre .parent) (x .child) .0 in
     let wrote : Wrote rows (leaves-in rows (p + 1) (k - (p + 1))) (c .args .done) (c .args .columns .now) (c .args .paths .now) (c .loop-next .columns) (c .loop-next .paths) (Ok (c .loop-next .so-far)) =
-    subst (λ m. Wrote rows (leaves-in rows (p + 1) (m - (p + 1))) (c .args .done) (c .args .columns .now) (c .args .paths .now) (c .loop-next .columns) (c .loop-next .paths) (Ok (c .loop-next .so-far))) at (c .loop-next .inv .4) in
-    (
+    subst (λ m. Wrote rows (leaves-in rows (p + 1) (m - (p + 1))) (c .args .done) (c .args .columns .now) (c .args .paths .now) (c .loop-next .columns) (c .loop-next .paths) (Ok (c .loop-next .so-far))) at (c .loop-next .inv .4) in (
       walk-more element-span rows p n k (c .loop-next .next) r (c .loop-next .inv .0) (c .in-Some .is) told,
       restored-on (c .args .walked .now) (c .loop-next .walked) (c .list-element .last .walked) (c .loop-next .inv .1) (c .list-element .ensures .restored),
       (omega (arith, place, x .after), omega (arith, place, x .ends)),
       (λ e. ap (λ m. m + 1) (c .loop-next .inv .3 e ∙ ap (roots-before rows) at)
           ∙ sym (ap (roots-before rows) place ∙ roots-past bytes rows fin n k (subst (λ q. nth (children (alone (fin .0)) q) n ≡ Some k) e (x .child)) (x .within))),
       wrote-more rows (leaves-in rows (p + 1) (k - (p + 1))) (leaves-at rows k) (c .args .done) (c .loop-next .so-far) (c .args .columns .now) (c .args .paths .now) (c .loop-next .columns) (c .loop-next .paths) (c .list-element .last .columns) (c .list-element .last .paths)
-      (c .loop-next .kept .paths) wrote (c .in-Continue-so-far .so-far) (c .in-Continue-so-far .ensures tt .wrote) (leaves-in rows (p + 1) (place-of rows p r - (p + 1)))
-      (ap (λ m. leaves-in rows (p + 1) (m - (p + 1))) place ∙ split-on rows p k z (omega (arith, x .after))),
+          (c .loop-next .kept .paths) wrote (c .in-Continue-so-far .so-far) (c .in-Continue-so-far .ensures tt .wrote) (leaves-in rows (p + 1) (place-of rows p r - (p + 1)))
+          (ap (λ m. leaves-in rows (p + 1) (m - (p + 1))) place ∙ split-on rows p k z (omega (arith, x .after))),
     )
 
 -- An element.
@@ -198,8 +195,7 @@ list-element-list-children-requires t c κs =
     let is = walked-path (c .args .walked .now) in
     let bytes = c .pre .walking .finished .0 in
     let fin = c .pre .walking .finished .1 in
-    let group = group-at bytes rows fin e (c .pre .element) (sym (c .if-is-group .ensures tt .group)) in
-    (
+    let group = group-at bytes rows fin e (c .pre .element) (sym (c .if-is-group .ensures tt .group)) in (
       (let m = c .measured in omega (arith, m)),
       (
         record {

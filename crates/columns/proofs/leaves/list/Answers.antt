@@ -26,13 +26,13 @@ returns c =
     (c .clear-columns .ensures ∙ ap (λ n. take n columns ++ replicate (length columns - n) empty-column) (ap (λ d. d .columns) (c .used-done .ensures)))
     (c .clear-numbers .ensures ∙ ap (λ n. take n paths ++ replicate (length paths - n) 0) (ap (λ d. d .numbers) (c .used-done .ensures))) in
     rw (c .answer .ensures) (
-      record {
-        told = told;
-        restored = c .walk-outcome .ensures .restored;
-        levels = bounded-accepted (s .bytes) rows kept (λ e. memory-decides s els ns kept refl .0 e .tree) w (length (c .args .columns .now)) (length (c .args .paths .now)) (answer-of (c .walk-outcome .result)) (told .answer);
-        law = λ h p. record {
-          holds = reached-holds (whole s) p;
-          answer = told .answer ∙ ap (λ b. list-refusal b rows w (length (c .args .columns .now)) (length (c .args .paths .now))) (memory-law p kept refl);
-        };
-      }
+    record {
+      told = told;
+      restored = c .walk-outcome .ensures .restored;
+      levels = bounded-accepted (s .bytes) rows kept (λ e. memory-decides s els ns kept refl .0 e .tree) w (length (c .args .columns .now)) (length (c .args .paths .now)) (answer-of (c .walk-outcome .result)) (told .answer);
+      law = λ h p. record {
+        holds = reached-holds (whole s) p;
+        answer = told .answer ∙ ap (λ b. list-refusal b rows w (length (c .args .columns .now)) (length (c .args .paths .now))) (memory-law p kept refl);
+      };
+    }
     )

@@ -244,3 +244,35 @@ fn root_alone_and_deepest(rt: LibcRuntime) -> Result<(), Fail> {
     check(is(columns[0], 64, 63, 64, 63, 0))?;
     check_eq(paths[63], 64)
 }
+
+// As many leaves as a schema can have: each is a column of its own, below a child of the root of its own.
+#[test]
+fn most_leaves(rt: LibcRuntime) -> Result<(), Fail> {
+    let mut elements = vec![in rt.alloc(); Element::EMPTY; 4096]?;
+    let mut columns = vec![in rt.alloc(); Column::EMPTY; 4095]?;
+    let mut paths = vec![in rt.alloc(); 0; 4095]?;
+    let names: &mut [u8] = &mut [0; 1];
+    let rows = elements.as_mut_slice();
+    let Ok(mut draft) = Draft::begin(rows, names, b"", None) else {
+        return Err(Fail::new("begin"));
+    };
+    for _ in 0..4095 {
+        check_eq(
+            refused(draft.add(rows, names, b"", Repetition::Optional, FLAG, None)),
+            0,
+        )?;
+    }
+    let Ok(schema) = finish(draft, rows, names) else {
+        return Err(Fail::new("finish"));
+    };
+    let mut walked = PathRecord::EMPTY;
+    let table = columns.as_mut_slice();
+    let numbers = paths.as_mut_slice();
+    let answer = list(&schema, rows, names, table, numbers, &mut walked);
+    check_eq(answer.ok(), Some(4095))?;
+    check_eq(numbers.get(4094).copied(), Some(4095))?;
+    match table.get(4094) {
+        Some(last) => check(is(*last, 4095, 0, 1, 0, 4094)),
+        None => Err(Fail::new("no last column")),
+    }
+}

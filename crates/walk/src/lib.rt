@@ -2,3 +2,6 @@
 mod laws;
 mod levels;
 mod role;
+
+pub use levels::Levels;
+pub use role::Role;

@@ -1,0 +1,15 @@
+pub mod Trees
+pub mod Roles
+pub mod Shapes
+pub mod Names
+pub mod Outcomes
+pub mod Written
+pub mod Handing
+pub mod Seated
+pub mod Leaves
+pub mod Turns
+pub mod Inside
+pub mod Listed
+pub mod Mapped
+pub mod Grouped
+pub mod Structs

@@ -13,3 +13,7 @@ pub mod Listed
 pub mod Mapped
 pub mod Grouped
 pub mod Structs
+pub mod ListVisit
+pub mod MapVisit
+pub mod Visited
+pub mod Dispatched

@@ -103,7 +103,7 @@ module _ (s : Input) (i k : ℕ) (v : Levels) (key : Bool) (hs : Forest Hint) (e
   abbrev below-read : Part → Forest Element → Forest Read
   below-read p f = hinting false hs inner-hint (reading p (told .holder) (kids (s .names) i k f))
 
-  list-form : field-as s listed i k v false key hs e b
+  pub list-form : field-as s listed i k v false key hs e b
       ≡ checked (list-checks i hs) (outcome typing (in-flags (s .flags)) (raised v rep) (is-optional rep) (below-read (cond itself as-element as-middle) b))
   list-form =
       let f : Forest Read = below-read (cond itself as-element as-middle) b in

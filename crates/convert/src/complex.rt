@@ -3,8 +3,8 @@ ghost use mathlib.Core.Path.{_≡_};
 ghost use Prim.Native.Nat.{ℕ, _+_, _^_, _<_, _≤_};
 ghost use lib.ListN.{length};
 ghost use Rattle.tree.specs.Forest.{Forest};
-ghost use Rattle.schema.specs.declared.element.Kind.the-variants.{Leaf as LeafKind};
-ghost use Rattle.walk.specs.declared.role.Role.the-variants.{Own as OwnRole, Middle as MiddleRole, Entries as EntriesRole};
+ghost use Rattle.schema.specs.declared.element.Kind.the-variants.{Leaf as LeafKind, Group as GroupKind};
+ghost use Rattle.walk.specs.declared.role.Role.the-variants.{Own as OwnRole, Listed as ListedRole, Mapped as MappedRole, Middle as MiddleRole, Entries as EntriesRole};
 ghost use Rattle.tree.specs.Forest.Forest.{plant};
 ghost use mathlib.Core.Bool.{false};
 ghost use Rattle.schema.specs.Elements.{part};
@@ -13,9 +13,9 @@ ghost use Rattle.walk.specs.Hints.{Hint};
 ghost use Rattle.walk.specs.Faults.{Typing, name-checks, struct-checks, map-checks};
 ghost use Rattle.walk.specs.Labels.{Numbered, is-optional, or-required};
 ghost use Rattle.walk.specs.Shape.Items.{of-list, of-map};
-ghost use Rattle.convert.specs.Table.{Stands, Rooted, label};
+ghost use Rattle.convert.specs.Table.{Stands, Rooted, Reads, element-at, label};
 ghost use Rattle.convert.specs.Handed.{Hinted, Whole-hints, Passes};
-ghost use Rattle.convert.specs.Walked.{field-told, element-told, middle-told, entries-told, items-full};
+ghost use Rattle.convert.specs.Walked.{field-told, element-told, middle-told, entries-told, items-full, Has-hint, Ready, Ready-below, Visits, Visits-as, Dispatches, Fields};
 ghost use Rattle.convert.specs.Own.{group-field};
 ghost use Rattle.convert.specs.Outcome.{Told, shown-row};
 ghost use Rattle.convert.specs.Visit.{Meets, Seats, read-by, gives-as};
@@ -24,6 +24,7 @@ use crate::context::Seat;
 use crate::context::Source;
 use crate::context::Task;
 use crate::hints::first_hint;
+use crate::hints::fits_list;
 use crate::hints::fits_map;
 use crate::hints::fits_struct;
 use crate::hints::has_children;
@@ -33,10 +34,16 @@ use crate::hints::is_over_two;
 use crate::hints::is_sorted;
 use crate::hints::list_kind;
 use crate::hints::metadata_of;
+use crate::hints::next_hint;
 use crate::hints::unwrap_hint;
 use crate::reading::bytes_at;
 use crate::reading::count_children;
+use crate::reading::is_element;
 use crate::reading::is_optional;
+use crate::reading::role_at;
+use crate::rows::close;
+use crate::rows::close_struct;
+use crate::rows::head_of;
 use crate::rows::is_chosen;
 use crate::rows::is_wrapped;
 use crate::rows::raise;
@@ -46,10 +53,15 @@ use arrow::Entries;
 use arrow::Field;
 use arrow::ResultRow;
 use arrow::convert_primitive;
+use schema::Annotation;
 use schema::Element;
+use schema::ElementRow;
+use schema::Kind;
 use schema::Leaf;
 use schema::Refusal;
+use tree::FlatTree;
 use walk::Levels;
+use walk::Role;
 
 // Visits a leaf.
 pub(crate) fn visit_primitive(
@@ -220,5 +232,202 @@ fn map_row(
             name: entries.name,
             metadata: hint_number(source.hints, inner),
         }),
+    }
+}
+
+// Visits the element at `at`, which has a row of its own.
+fn visit_own(
+    source: Source,
+    at: usize,
+    seat: Seat,
+    from: Cursor,
+    rows: &mut [ResultRow],
+) -> Result<Cursor, Refusal>
+    requires ready { ⌜ Ready (read-by source .elements) at (seat .levels) from (length (now rows)) ⌝ }
+    requires hints { ⌜ Whole-hints (read-by source .hints) ⌝ }
+    requires hinted { ⌜ Has-hint (read-by source) (seat .hint) ⌝ }
+    ensures { λ r. ⌜ Visits (read-by (source .entry)) at seat from (now (rows .entry)) (now (rows .exit)) r ⌝ }
+{
+    let element = source.elements[at];
+    match element.kind {
+        Kind::Leaf(leaf) => visit_primitive(source, at, element, leaf, seat, from, rows),
+        Kind::Group(_) => visit_struct(source, at, seat, from, rows),
+    }
+}
+
+// Visits a group as a struct.
+fn visit_struct(
+    source: Source,
+    at: usize,
+    seat: Seat,
+    from: Cursor,
+    rows: &mut [ResultRow],
+) -> Result<Cursor, Refusal>
+    requires ready { ⌜ Ready (read-by source .elements) at (seat .levels) from (length (now rows)) ⌝ }
+    requires hints { ⌜ Whole-hints (read-by source .hints) ⌝ }
+    requires hinted { ⌜ Has-hint (read-by source) (seat .hint) ⌝ }
+    requires kind { ⌜ ((n : Annotation) × (element-at (read-by source .elements) at .kind ≡ GroupKind n)) ⌝ }
+    ensures { λ r. ⌜ Visits (read-by (source .entry)) at seat from (now (rows .entry)) (now (rows .exit)) r ⌝ }
+{
+    let element = source.elements[at];
+    let wrapped = is_wrapped(element, seat);
+    let hint = unwrap_hint(source.hints, at, wrapped, seat.hint)?;
+    check_struct(source, at, hint)?;
+    let levels = raise(seat.levels, element);
+    let inner = Cursor {
+        row: head_of(element, from.row) + 1,
+        leaf: from.leaf,
+    };
+    let cursor = visit_fields(source, at, levels, hint, inner, rows)?;
+    Ok(close_struct(source.hints, element, seat, levels, from.row, cursor, rows))
+}
+
+// Visits the fields of the struct at `at`, each with its hint.
+fn visit_fields(
+    source: Source,
+    at: usize,
+    levels: Levels,
+    hint: Option<usize>,
+    from: Cursor,
+    rows: &mut [ResultRow],
+) -> Result<Cursor, Refusal>
+    requires ready { ⌜ Ready-below (read-by source .elements) at levels from (length (now rows)) ⌝ }
+    requires hints { ⌜ Whole-hints (read-by source .hints) ⌝ }
+    requires hinted { ⌜ Has-hint (read-by source) hint ⌝ }
+    ensures { λ r. ⌜ Fields (read-by (source .entry)) at levels hint from (now (rows .entry)) (now (rows .exit)) r ⌝ }
+{
+    let tree = FlatTree::new(source.elements);
+    let mut cursor = from;
+    let mut given = first_hint(source.hints, hint);
+    let mut next = tree.first_child(at);
+    while let Some(child) = next {
+        let task = Task {
+            levels,
+            hint: given,
+            named: true,
+            key: false,
+        };
+        cursor = dispatch(source, child, task, cursor, rows)?;
+        given = next_hint(source.hints, given, hint);
+        next = tree.next_sibling(child, at);
+    }
+    Ok(cursor)
+}
+
+// Visits a group as a list, by its repeated child.
+fn visit_list(
+    source: Source,
+    at: usize,
+    task: Task,
+    from: Cursor,
+    rows: &mut [ResultRow],
+) -> Result<Cursor, Refusal>
+    requires ready { ⌜ Ready (read-by source .elements) at (task .levels) from (length (now rows)) ⌝ }
+    requires hints { ⌜ Whole-hints (read-by source .hints) ⌝ }
+    requires hinted { ⌜ Has-hint (read-by source) (task .hint) ⌝ }
+    requires reads { ⌜ Reads (read-by source .elements) at ListedRole ⌝ }
+    ensures { λ r. ⌜ Visits-as ListedRole (read-by (source .entry)) at task from (now (rows .entry)) (now (rows .exit)) r ⌝ }
+{
+    if !fits_list(source.hints, task.hint) {
+        return Err(Refusal::HintKind(at));
+    }
+    let group = source.elements[at];
+    let levels = raise(task.levels, group);
+    let child = at + 1;
+    let seat = element_seat(source, group, task, levels);
+    if is_element(source.elements, source.names, at) {
+        return visit_own(source, child, seat, from, rows);
+    }
+    let deeper = raise(levels, source.elements[child]);
+    let item = Task {
+        levels: deeper,
+        hint: seat.hint,
+        named: false,
+        key: false,
+    };
+    let inner = Cursor {
+        row: from.row + 1,
+        leaf: from.leaf,
+    };
+    let cursor = dispatch(source, child + 1, item, inner, rows)?;
+    let row = middle_row(source, group, task, deeper);
+    Ok(close(rows, from.row, cursor, row))
+}
+
+// Visits a group as a map: where key or value gives no row, the rows of the other are given back.
+fn visit_map(
+    source: Source,
+    at: usize,
+    task: Task,
+    from: Cursor,
+    rows: &mut [ResultRow],
+) -> Result<Cursor, Refusal>
+    requires ready { ⌜ Ready (read-by source .elements) at (task .levels) from (length (now rows)) ⌝ }
+    requires hints { ⌜ Whole-hints (read-by source .hints) ⌝ }
+    requires hinted { ⌜ Has-hint (read-by source) (task .hint) ⌝ }
+    requires reads { ⌜ Reads (read-by source .elements) at MappedRole ⌝ }
+    ensures { λ r. ⌜ Visits-as MappedRole (read-by (source .entry)) at task from (now (rows .entry)) (now (rows .exit)) r ⌝ }
+{
+    check_map(source, at, task.hint)?;
+    let group = source.elements[at];
+    let entries = source.elements[at + 1];
+    let levels = raise(raise(task.levels, group), entries);
+    let parent = first_hint(source.hints, task.hint);
+    let given = first_hint(source.hints, parent);
+    let key = Task {
+        levels,
+        hint: given,
+        named: false,
+        key: true,
+    };
+    let inner = Cursor {
+        row: from.row + 1,
+        leaf: from.leaf,
+    };
+    let middle = dispatch(source, at + 2, key, inner, rows)?;
+    let value = Task {
+        levels,
+        hint: next_hint(source.hints, given, parent),
+        named: false,
+        key: false,
+    };
+    let cursor = dispatch(
+        source,
+        at + 2 + source.elements[at + 2].size,
+        value,
+        middle,
+        rows,
+    )?;
+    if middle.row == from.row + 1 || cursor.row == middle.row {
+        return Ok(Cursor {
+            row: from.row,
+            leaf: cursor.leaf,
+        });
+    }
+    let row = map_row(source, group, entries, task, levels);
+    Ok(close(rows, from.row, cursor, row))
+}
+
+// Visits a field, a key or a value, by how it is read.
+fn dispatch(
+    source: Source,
+    at: usize,
+    task: Task,
+    from: Cursor,
+    rows: &mut [ResultRow],
+) -> Result<Cursor, Refusal>
+    requires ready { ⌜ Ready (read-by source .elements) at (task .levels) from (length (now rows)) ⌝ }
+    requires hints { ⌜ Whole-hints (read-by source .hints) ⌝ }
+    requires hinted { ⌜ Has-hint (read-by source) (task .hint) ⌝ }
+    ensures { λ r. ⌜ Dispatches (read-by (source .entry)) at task from (now (rows .entry)) (now (rows .exit)) r ⌝ }
+{
+    let element = source.elements[at];
+    check_name(source, at, element, task)?;
+    match role_at(source.elements, at) {
+        Role::Own => visit_own(source, at, field_seat(source, element, task), from, rows),
+        Role::Listed => visit_list(source, at, task, from, rows),
+        Role::Mapped => visit_map(source, at, task, from, rows),
+        Role::Broken(refusal) => Err(refusal),
+        Role::Middle | Role::Entries => unreachable(),
     }
 }

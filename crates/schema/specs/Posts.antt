@@ -59,6 +59,7 @@ pub record Spelt (repetition : Option Repetition) (fieldId : Option ℤ) (kind :
   pub start : ℕ
   pub fresh : d .bytes ≤ start
   pub within : start + length name ≤ d′ .bytes
+  pub bytes : d′ .bytes ≡ d .bytes + length name
   pub room : d′ .bytes ≤ length ns
   pub more : d .count < length els
   pub count : d′ .count ≡ d .count + 1

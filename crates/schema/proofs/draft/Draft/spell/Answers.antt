@@ -26,6 +26,7 @@ returns c = record {
     start = c .args .self .now .bytes;
     fresh = omega arith;
     within = omega arith;
+    bytes = refl;
     room = search needs;
     more = search needs;
     count = refl;

@@ -1,4 +1,5 @@
 // Arrow's side: types, hint rows, result rows, and the Arrow types of leaves.
+#![tactic(auto)]
 mod hint;
 mod primitive;
 mod row;

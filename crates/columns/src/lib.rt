@@ -1,4 +1,5 @@
 // The columns of a finished schema: its leaves in order, with their highest levels and paths.
+#![tactic(auto)]
 mod column;
 mod leaves;
 mod record;

@@ -1,4 +1,5 @@
 // The conversion of a finished schema into rows of Arrow fields.
+#![tactic(auto)]
 ghost use Rattle.std.specs.Prelude.{◌≡◌, ℕ, ◌-◌, ◌*◌, ◌≤◌, List, ◌++◌, length, take, replicate};
 ghost use Rattle.schema.specs.Reach.{Reached, whole};
 ghost use Rattle.schema.specs.Rows.{IsFinished};

@@ -1,4 +1,5 @@
 // Runs a script that drafts schemas: that of the file named, that of standard input for `-`, or a built-in one.
+#![tactic(auto)]
 
 mod journal;
 

@@ -1,4 +1,5 @@
 // A selection written outside the library: the leaves with odd numbers.
+#![tactic(auto)]
 ghost use Rattle.std.specs.Prelude.{◌%◌, ◌==◌};
 
 use selection::Selection;

@@ -1,4 +1,5 @@
 // Parquet schemas as flat tables: their records, the refusals, and how a schema is drafted and finished.
+#![tactic(auto)]
 mod basic;
 mod check;
 mod decimal;

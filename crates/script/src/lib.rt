@@ -1,4 +1,5 @@
 // Scripts that draft schemas: one command a line, and a printed answer to each.
+#![tactic(auto)]
 mod command;
 mod hints;
 mod run;

@@ -1,4 +1,5 @@
 // Worked examples at the limits, as tests.
+#![tactic(auto)]
 #[cfg(test)]
 mod drafting;
 #[cfg(test)]

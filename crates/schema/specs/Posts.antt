@@ -1,5 +1,5 @@
 -- What each call answers and leaves. Each of these stands in its call's contract and is a step of `Reached`.
-use Rattle.std.specs.Prelude.{◌≡◌, ℕ, ◌+◌, ◌-◌, ◌<◌, ◌≤◌, Bool, true, false, cond, not, ◌&&◌, ◌||◌, List, [], ◌∷◌, ◌++◌, map, length, take, drop, set, ℤ, Some, None, Ok, Err, Option, Result, MatchResult, ◌==◌, nat_le, nat_lt, slice_set}
+use Rattle.std.specs.Prelude.{◌≡◌, ℕ, ◌+◌, ◌-◌, ◌<◌, ◌≤◌, Bool, cond, not, ◌&&◌, ◌||◌, List, ◌++◌, map, length, take, drop, ℤ, Some, None, Ok, Err, Option, Result, MatchResult, ◌==◌, nat_le, nat_lt, slice_set}
 use Rattle.schema.specs.declared.basic.Annotation.{Annotation}
 use Rattle.schema.specs.declared.basic.Annotation.TheVariants as a
 use Rattle.schema.specs.declared.basic.Repetition.{Repetition}
@@ -23,7 +23,7 @@ refusal (Err e) = Some e
 
 -- the first ground that applies
 abbrev pub first : Bool → Refusal → Option Refusal → Option Refusal
-first applies ground others = cond applies (Some ground) others
+first applies refused others = cond applies (Some refused) others
 
 -- an element as the memory shows it, and the elements shown
 abbrev pub shown_as : List ℕ → Element → Spelled

@@ -1,5 +1,5 @@
 -- Which draft or schema, over which memory, a history of calls can have come to; and what that then holds.
-use Rattle.std.specs.Prelude.{◌≡◌, ℕ, ◌≤◌, Bool, true, false, not, List, [], ◌∷◌, length, take, ℤ, is_ok, None, Ok, Err, Option, Result, MatchResult}
+use Rattle.std.specs.Prelude.{◌≡◌, ℕ, ◌≤◌, Bool, true, not, List, [], ◌∷◌, length, take, ℤ, is_ok, None, Ok, Err, Option, Result}
 use Rattle.tree.specs.Forest.{Tree, alone, Lists}
 use Rattle.schema.specs.declared.basic.Annotation.{Annotation}
 use Rattle.schema.specs.declared.basic.Repetition.{Repetition}

@@ -1,11 +1,10 @@
 -- Which rows are a schema, by their depths alone: as steps from row to row, and as a tree.
-use Rattle.std.specs.Prelude.{◌≡◌, ℕ, ◌+◌, ◌≤◌, Bool, true, false, cond, ◌&&◌, T, List, [], ◌∷◌, ◌++◌, map, length, is_some, Some, None, Option, ◌==◌, nat_le, nat_lt}
+use Rattle.std.specs.Prelude.{◌≡◌, ℕ, ◌+◌, ◌≤◌, Bool, true, false, cond, ◌&&◌, List, [], ◌∷◌, map, length, is_some, Some, None, Option, ◌==◌, nat_le, nat_lt}
 use Rattle.std.specs.List.{AllByRecursion as All}
 use Rattle.tree.specs.Forest.{Forest, Tree, alone, listing, Lists}
 use Rattle.tree.specs.Forest.Forest.{bare, plant}
 use Rattle.schema.specs.declared.basic.Annotation.{Annotation}
 use Rattle.schema.specs.declared.basic.Annotation.TheVariants as a
-use Rattle.schema.specs.declared.basic.Repetition.{Repetition}
 use Rattle.schema.specs.declared.element.Element.{Element}
 use Rattle.schema.specs.declared.element.Kind.{Kind}
 use Rattle.schema.specs.declared.element.Kind.TheVariants as k

@@ -1,5 +1,6 @@
 // Parquet schemas as flat tables: their records, the refusals, and how a schema is drafted and finished.
 #![tactic(auto)]
+
 mod basic;
 mod check;
 mod decimal;

@@ -11,13 +11,13 @@ returns-then-levels-eq0 t c =
       | then-levels-eq0-via-else-levels-eq0+else-size-eq0+then-size-end w ↦ long_size c.loop-at.invariant w.if-size-end.true c.loop-at-test.true
     ]
 
-pub returns-then-not-is-shallow : goal.returns-then-not-is-shallow
-returns-then-not-is-shallow t c =
-    deep_below c.loop-at.invariant c.loop-at-test.true c.is-shallow.result c.if-size-end.false (omega arith) c.is-shallow.ensures c.if-not-is-shallow.true
+pub returns-then-not-is_shallow : goal.returns-then-not-is_shallow
+returns-then-not-is_shallow t c =
+    deep_below c.loop-at.invariant c.loop-at-test.true c.is_shallow.result c.if-size-end.false (omega arith) c.is_shallow.ensures c.if-not-is_shallow.true
 
 pub loop-at-preserved : goal.loop-at-preserved
 loop-at-preserved t c =
-    goes_on c.loop-at.invariant c.loop-at-test.true c.is-shallow.result c.if-size-end.false (omega arith) c.is-shallow.ensures c.if-not-is-shallow.false
+    goes_on c.loop-at.invariant c.loop-at-test.true c.is_shallow.result c.if-size-end.false (omega arith) c.is_shallow.ensures c.if-not-is_shallow.false
 
 pub returns : goal.returns
 returns t c = all_shallow c.loop-at.invariant c.loop-at-test.false

@@ -2,8 +2,8 @@ use Rattle.std.proofs.Common.{◌-◌}
 use Rattle.arrow.proofs.Depths.{Under}
 use Rattle.arrow.proofs.hint.+is_shallow.Given as goal
 
-abbrev pub decreases-is-shallow : goal.decreases-is-shallow
-decreases-is-shallow l = l.levels
+abbrev pub decreases-is_shallow : goal.decreases-is_shallow
+decreases-is_shallow l = l.levels
 
 abbrev pub invariant-loop-at : goal.invariant-loop-at
 invariant-loop-at l = Under l.rows l.initial.at l.at l.end l.levels

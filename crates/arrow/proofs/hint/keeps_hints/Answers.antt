@@ -6,4 +6,4 @@ use Rattle.arrow.proofs.hint.keeps_hints.Goals as goal
 
 pub loop-i-preserved : goal.loop-i-preserved
 loop-i-preserved c =
-    λ f l. kept_more c.args.text-length c.args.rows.now f c.loop-i.i c.count-children-children.result (c.loop-i.invariant f l) (c.count-children-children.ensures.counts f (subst (λ xs. Lists hint_span f xs) (sym c.new.ensures.rows) l)) (sym c.keeps-hint.ensures ∙ c.if-not-keeps-hint.false)
+    λ f l. kept_more c.args.text_length c.args.rows.now f c.loop-i.i c.count_children-children.result (c.loop-i.invariant f l) (c.count_children-children.ensures.counts f (subst (λ xs. Lists hint_span f xs) (sym c.new.ensures.rows) l)) (sym c.keeps_hint.ensures ∙ c.if-not-keeps_hint.false)

@@ -3,5 +3,5 @@ use Rattle.arrow.specs.HintTrees.{empty_hint}
 use Rattle.arrow.proofs.primitive.+apply_hint.Given as goal
 
 -- the rows of the hint
-abbrev pub decreases-apply-hint : goal.decreases-apply-hint
-decreases-apply-hint l = (get_or l.hints.now l.row empty_hint).size
+abbrev pub decreases-apply_hint : goal.decreases-apply_hint
+decreases-apply_hint l = (get_or l.hints.now l.row empty_hint).size

@@ -46,14 +46,14 @@ next_child rows bytes fin p n c next h w e =
       path = path_child bytes rows fin p n c child h in';
     }
 
-pub list-children-loop-next-init : goal.list-children-loop-next-init
-list-children-loop-next-init t c =
+pub list_children-loop-next-init : goal.list_children-loop-next-init
+list_children-loop-next-init t c =
     let rows = c.args.rows.now in
     let p = c.args.parent in
     let bytes = c.requires.walking.finished.0 in
     let fin = c.requires.walking.finished.1 in
-    let r = c.first-child-next.result in
-    let told : SomeIff r (HasChild element_span rows p) (p + 1) = subst (λ xs. SomeIff r (HasChild element_span xs p) (p + 1)) c.new-tree.ensures.rows c.first-child-next.ensures.by_size in
+    let r = c.first_child-next.result in
+    let told : SomeIff r (HasChild element_span rows p) (p + 1) = subst (λ xs. SomeIff r (HasChild element_span xs p) (p + 1)) c.new-tree.ensures.rows c.first_child-next.ensures.by_size in
     let place : place_of rows p r ≡ p + 1 =
     ap (place_of rows p) (first_in_tree element_span (alone fin.0) rows fin.2 p r told) ∙ first_place bytes rows fin p c.requires.parent in
     let ends = ends_within element_span (alone fin.0) rows fin.2 p c.requires.parent in
@@ -77,8 +77,8 @@ child_root rows bytes fin (suc p) n c root r h x e top deep =
 at_child : (rows : List Element) (p c : ℕ) (next : Option ℕ) → next ≡ Some c → place_of rows p next ≡ c
 at_child rows p c next e = ap (place_of rows p) e
 
-pub list-children-list-element-requires : goal.list-children-list-element-requires
-list-children-list-element-requires t c =
+pub list_children-list_element-requires : goal.list_children-list_element-requires
+list_children-list_element-requires t c =
     let rows = c.args.rows.now in
     let p = c.args.parent in
     let k = c.in-Some.child in
@@ -105,15 +105,15 @@ list-children-list-element-requires t c =
           x.within,
           (
             x.path ∙ ap (λ is. is ++ k ∷ []) (sym same),
-            child_root rows bytes fin p c.loop-next.number k c.args.root c.root-number-root.result c.requires.parent x c.root-number-root.ensures
+            child_root rows bytes fin p c.loop-next.number k c.args.root c.root_number-root.result c.requires.parent x c.root_number-root.ensures
                 (λ e. c.loop-next.invariant.3 e ∙ ap (roots_before rows) at) c.requires.root,
           ),
         ),
       ),
     )
 
-pub list-children-returns-in-err-so-far : goal.list-children-returns-in-err-so-far
-list-children-returns-in-err-so-far t c =
+pub list_children-returns-in_err-so_far : goal.list_children-returns-in_err-so_far
+list_children-returns-in_err-so_far t c =
     let rows = c.args.rows.now in
     let p = c.args.parent in
     let k = c.in-Some.child in
@@ -123,16 +123,16 @@ list-children-returns-in-err-so-far t c =
     let at : place_of rows p c.loop-next.next ≡ k = at_child rows p k c.loop-next.next c.in-Some.is in
     let wrote : Wrote rows (leaves_in rows (p + 1) (k - (p + 1))) c.args.done c.args.columns.now c.args.paths.now c.loop-next.columns c.loop-next.paths (Ok c.loop-next.so_far) =
     subst (λ m. Wrote rows (leaves_in rows (p + 1) (m - (p + 1))) c.args.done c.args.columns.now c.args.paths.now c.loop-next.columns c.loop-next.paths (Ok c.loop-next.so_far)) at c.loop-next.invariant.4 in
-    let e = err_from_is_err_and c.from-residual.result c.from-residual.ensures.1 in
-    let w = wrote_less rows (leaves_in rows (p + 1) (k - (p + 1))) (leaves_at rows k) c.args.done c.loop-next.so_far c.args.columns.now c.args.paths.now c.loop-next.columns c.loop-next.paths c.list-element.new.columns c.list-element.new.paths
-    c.loop-next.auto.paths wrote _ c.in-err-so-far.ensures.wrote (leaves_below rows p) _ (split_at rows p k (size_at element_span rows k) (omega (arith, x.after)) x.ends) in
+    let e = err_from_is_err_and c.from_residual.result c.from_residual.ensures.1 in
+    let w = wrote_less rows (leaves_in rows (p + 1) (k - (p + 1))) (leaves_at rows k) c.args.done c.loop-next.so_far c.args.columns.now c.args.paths.now c.loop-next.columns c.loop-next.paths c.list_element.new.columns c.list_element.new.paths
+    c.loop-next.auto.paths wrote _ c.in_err-so_far.ensures.wrote (leaves_below rows p) _ (split_at rows p k (size_at element_span rows k) (omega (arith, x.after)) x.ends) in
     record {
-      restored = restored_on c.args.walked.now c.loop-next.walked c.list-element.new.walked c.loop-next.invariant.1 c.list-element.ensures.restored;
+      restored = restored_on c.args.walked.now c.loop-next.walked c.list_element.new.walked c.loop-next.invariant.1 c.list_element.ensures.restored;
       wrote = rw (e.1, e.2) w;
     }
 
-pub list-children-loop-next-preserved : goal.list-children-loop-next-preserved
-list-children-loop-next-preserved t c =
+pub list_children-loop-next-preserved : goal.list_children-loop-next-preserved
+list_children-loop-next-preserved t c =
     let rows = c.args.rows.now in
     let p = c.args.parent in
     let k = c.in-Some.child in
@@ -141,21 +141,21 @@ list-children-loop-next-preserved t c =
     let fin = c.requires.walking.finished.1 in
     let x = next_child rows bytes fin p n k c.loop-next.next c.requires.parent c.loop-next.invariant.0 c.in-Some.is in
     let at : place_of rows p c.loop-next.next ≡ k = at_child rows p k c.loop-next.next c.in-Some.is in
-    let r = c.next-sibling-next.result in
+    let r = c.next_sibling-next.result in
     let z = size_at element_span rows k in
     let told : SomeIff r (HasNext element_span rows k p) (k + size_at element_span rows k) =
-    subst (λ xs. SomeIff r (HasNext element_span xs k p) (k + size_at element_span xs k)) c.new-tree.ensures.rows c.next-sibling-next.ensures.by_size in
+    subst (λ xs. SomeIff r (HasNext element_span xs k p) (k + size_at element_span xs k)) c.new-tree.ensures.rows c.next_sibling-next.ensures.by_size in
     let place : place_of rows p r ≡ k + z =
     ap (place_of rows p) (next_in_tree element_span (alone fin.0) rows fin.2 k p r told n x.child) ∙ (next_place bytes rows fin p n k c.requires.parent x.child).0 in
     let wrote : Wrote rows (leaves_in rows (p + 1) (k - (p + 1))) c.args.done c.args.columns.now c.args.paths.now c.loop-next.columns c.loop-next.paths (Ok c.loop-next.so_far) =
     subst (λ m. Wrote rows (leaves_in rows (p + 1) (m - (p + 1))) c.args.done c.args.columns.now c.args.paths.now c.loop-next.columns c.loop-next.paths (Ok c.loop-next.so_far)) at c.loop-next.invariant.4 in (
       walk_more element_span rows p n k c.loop-next.next r c.loop-next.invariant.0 c.in-Some.is told,
-      restored_on c.args.walked.now c.loop-next.walked c.list-element.new.walked c.loop-next.invariant.1 c.list-element.ensures.restored,
+      restored_on c.args.walked.now c.loop-next.walked c.list_element.new.walked c.loop-next.invariant.1 c.list_element.ensures.restored,
       (omega (arith, place, x.after), omega (arith, place, x.ends)),
       (λ e. ap (λ m. m + 1) (c.loop-next.invariant.3 e ∙ ap (roots_before rows) at)
           ∙ sym (ap (roots_before rows) place ∙ roots_past bytes rows fin n k (subst (λ q. slice_get (children (alone fin.0) q) n ≡ Some k) e x.child) x.within)),
-      wrote_more rows (leaves_in rows (p + 1) (k - (p + 1))) (leaves_at rows k) c.args.done c.loop-next.so_far c.args.columns.now c.args.paths.now c.loop-next.columns c.loop-next.paths c.list-element.new.columns c.list-element.new.paths
-          c.loop-next.auto.paths wrote c.in-ok-so-far.so_far c.in-ok-so-far.ensures.wrote (leaves_in rows (p + 1) (place_of rows p r - (p + 1)))
+      wrote_more rows (leaves_in rows (p + 1) (k - (p + 1))) (leaves_at rows k) c.args.done c.loop-next.so_far c.args.columns.now c.args.paths.now c.loop-next.columns c.loop-next.paths c.list_element.new.columns c.list_element.new.paths
+          c.loop-next.auto.paths wrote c.in_ok-so_far.so_far c.in_ok-so_far.ensures.wrote (leaves_in rows (p + 1) (place_of rows p r - (p + 1)))
           (ap (λ m. leaves_in rows (p + 1) (m - (p + 1))) place ∙ split_on rows p k z (omega (arith, x.after))),
     )
 
@@ -165,26 +165,26 @@ list-children-loop-next-preserved t c =
 path_room : (rows : List Element) (bytes : ℕ) (fin : IsFinished bytes rows) (e : ℕ) (is : List ℕ) → e < length rows → path_of rows e ≡ is ++ e ∷ [] → length is < 64
 path_room rows bytes fin e is h p = omega (arith, path_most bytes rows fin e h, ap length p, length-append is (e ∷ []))
 
-pub list-element-below-levels-requires : goal.list-element-below-levels-requires
-list-element-below-levels-requires t c =
+pub list_element-below-levels-requires : goal.list_element-below-levels-requires
+list_element-below-levels-requires t c =
     let rows = c.args.rows.now in
     let is = walked_path c.args.walked.now in
     let l = c.requires.walking.levels in
     let room = path_room rows c.requires.walking.finished.0 c.requires.walking.finished.1 c.args.element is c.requires.element c.requires.path in
     (omega (arith, l.repetition, rep_most rows is, def_most rows is, room), omega (arith, l.definition, def_most rows is, room))
 
-pub list-element-enter-guard-requires : goal.list-element-enter-guard-requires
-list-element-enter-guard-requires t c =
+pub list_element-enter-guard-requires : goal.list_element-enter-guard-requires
+list_element-enter-guard-requires t c =
     omega (arith, c.requires.walking.long, path_room c.args.rows.now c.requires.walking.finished.0 c.requires.walking.finished.1 c.args.element (walked_path c.args.walked.now) c.requires.element c.requires.path)
 
-pub list-element-list-children-requires : goal.list-element-list-children-requires
-list-element-list-children-requires t c =
+pub list_element-list_children-requires : goal.list_element-list_children-requires
+list_element-list_children-requires t c =
     let rows = c.args.rows.now in
     let e = c.args.element in
     let is = walked_path c.args.walked.now in
     let bytes = c.requires.walking.finished.0 in
     let fin = c.requires.walking.finished.1 in
-    let group = group_at bytes rows fin e c.requires.element (sym c.if-is-group.ensures.group) in (
+    let group = group_at bytes rows fin e c.requires.element (sym c.if-is_group.ensures.group) in (
       (let m = c.decreases in omega (arith, m)),
       (
         record {
@@ -199,31 +199,31 @@ list-element-list-children-requires t c =
       ),
     )
 
-pub list-element-returns-then-is-group : goal.list-element-returns-then-is-group
-list-element-returns-then-is-group t c =
+pub list_element-returns-then-is_group : goal.list_element-returns-then-is_group
+list_element-returns-then-is_group t c =
     let rows = c.args.rows.now in
     let e = c.args.element in
-    let group = group_at c.requires.walking.finished.0 rows c.requires.walking.finished.1 e c.requires.element (sym c.if-is-group.ensures.group) in
+    let group = group_at c.requires.walking.finished.0 rows c.requires.walking.finished.1 e c.requires.element (sym c.if-is_group.ensures.group) in
     record {
-      restored = left c.args.walked.now c.enter-guard.result.walked.now c.list-children.new.walked _ e c.enter-guard.ensures.len c.enter-guard.ensures.numbers c.list-children.ensures.restored (search rules) (search rules);
-      wrote = subst (λ es. Wrote rows es c.args.done c.args.columns.now c.args.paths.now c.list-children.new.columns c.list-children.new.paths c.list-children.result) (sym group) c.list-children.ensures.wrote;
+      restored = left c.args.walked.now c.enter-guard.result.walked.now c.list_children.new.walked _ e c.enter-guard.ensures.len c.enter-guard.ensures.numbers c.list_children.ensures.restored (search rules) (search rules);
+      wrote = subst (λ es. Wrote rows es c.args.done c.args.columns.now c.args.paths.now c.list_children.new.columns c.list_children.new.paths c.list_children.result) (sym group) c.list_children.ensures.wrote;
     }
 
-pub list-element-write-column-requires : goal.list-element-write-column-requires
-list-element-write-column-requires t c =
+pub list_element-write_column-requires : goal.list_element-write_column-requires
+list_element-write_column-requires t c =
     let rows = c.args.rows.now in
     let e = c.args.element in
-    let leaf = leaf_at c.requires.walking.finished.0 rows c.requires.walking.finished.1 e c.requires.element (sym c.if-is-group.ensures.group) in
+    let leaf = leaf_at c.requires.walking.finished.0 rows c.requires.walking.finished.1 e c.requires.element (sym c.if-is_group.ensures.group) in
     let room = path_room rows c.requires.walking.finished.0 c.requires.walking.finished.1 e (walked_path c.args.walked.now) c.requires.element c.requires.path in
     (omega (arith, c.enter-guard.ensures.len, c.requires.walking.long, room), (omega (arith, c.requires.walking.room, ap length leaf), c.requires.walking.numbers))
 
-pub list-element-returns : goal.list-element-returns
-list-element-returns t c =
+pub list_element-returns : goal.list_element-returns
+list_element-returns t c =
     let rows = c.args.rows.now in
     let e = c.args.element in
     let is = walked_path c.args.walked.now in
     let g = c.enter-guard.result.walked.now in
-    let leaf = leaf_at c.requires.walking.finished.0 rows c.requires.walking.finished.1 e c.requires.element (sym c.if-is-group.ensures.group) in
+    let leaf = leaf_at c.requires.walking.finished.0 rows c.requires.walking.finished.1 e c.requires.element (sym c.if-is_group.ensures.group) in
     let same : path_of rows e ≡ walked_path g = c.requires.path ∙ sym c.enter-guard.ensures.path in
     let levels : LevelsOf rows (walked_path g) c.below-levels.result =
     levels_push rows is e c.args.levels c.below-levels.result c.requires.walking.levels c.below-levels.ensures.repetition c.below-levels.ensures.definition c.below-levels.ensures.repeated (walked_path g) c.enter-guard.ensures.path in
@@ -231,6 +231,6 @@ list-element-returns t c =
     record {
       restored = left c.args.walked.now g g _ e c.enter-guard.ensures.len c.enter-guard.ensures.numbers (restored_same g) (search rules) (search rules);
       wrote =
-          appended_wrote rows (walked_path g) g.len e c.below-levels.result c.args.root c.args.done c.args.columns.now c.args.paths.now c.write-column.new.columns c.write-column.new.paths
-          same long levels (c.requires.root ∙ ap (root_of rows) same) c.write-column.result c.write-column.ensures (leaves_at rows e) leaf;
+          appended_wrote rows (walked_path g) g.len e c.below-levels.result c.args.root c.args.done c.args.columns.now c.args.paths.now c.write_column.new.columns c.write_column.new.paths
+          same long levels (c.requires.root ∙ ap (root_of rows) same) c.write_column.result c.write_column.ensures (leaves_at rows e) leaf;
     }

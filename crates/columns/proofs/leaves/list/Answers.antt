@@ -17,10 +17,10 @@ returns c =
     let kept = memory_kept s els ns in
     let columns = c.walk-outcome.new.columns in
     let paths = c.walk-outcome.new.paths in
-    let told : Listing kept rows w (length c.args.columns.now) (length c.args.paths.now) (answer_of c.walk-outcome.result) c.clear-columns.new.columns c.clear-numbers.new.paths =
-    listing kept rows w c.args.columns.now c.args.paths.now columns paths c.clear-columns.new.columns c.clear-numbers.new.paths c.walk-outcome.result c.walk-outcome.auto.columns c.walk-outcome.auto.paths c.walk-outcome.ensures.walked
-    (c.clear-columns.ensures ∙ ap (λ n. take n columns ++ replicate (length columns - n) empty_column) (ap (λ d. d.columns) c.used-done.ensures))
-    (c.clear-numbers.ensures ∙ ap (λ n. take n paths ++ replicate (length paths - n) 0) (ap (λ d. d.numbers) c.used-done.ensures)) in
+    let told : Listing kept rows w (length c.args.columns.now) (length c.args.paths.now) (answer_of c.walk-outcome.result) c.clear_columns.new.columns c.clear_numbers.new.paths =
+    listing kept rows w c.args.columns.now c.args.paths.now columns paths c.clear_columns.new.columns c.clear_numbers.new.paths c.walk-outcome.result c.walk-outcome.auto.columns c.walk-outcome.auto.paths c.walk-outcome.ensures.walked
+    (c.clear_columns.ensures ∙ ap (λ n. take n columns ++ replicate (length columns - n) empty_column) (ap (λ d. d.columns) c.used-done.ensures))
+    (c.clear_numbers.ensures ∙ ap (λ n. take n paths ++ replicate (length paths - n) 0) (ap (λ d. d.numbers) c.used-done.ensures)) in
     rw c.answer.ensures (
     record {
       told = told;

@@ -1,4 +1,4 @@
-use Rattle.std.proofs.Common.{◌≡◌, ℕ, ◌+◌, ◌-◌, ◌<◌, ◌≤◌, length, get_or, drop, ap, subst, arith, rules}
+use Rattle.std.proofs.Common.{◌≡◌, ◌+◌, ◌-◌, ◌≤◌, length, get_or, drop, subst, arith, rules}
 use Rattle.std.proofs.lemmas.List.{drop-drop}
 use Rattle.schema.specs.Elements.{empty}
 use Rattle.schema.proofs.Steps.{Known, known_drop, size_known, size_fits, jump, run_stops, run_ends}
@@ -23,8 +23,8 @@ loop-end-smaller c =
     let s = size_known c.args.rows.now c.loop-end.end 0 c.loop-end-test.true (known_at c) in
     omega (arith, s, c.loop-end-test.true)
 
-pub overflow-add-end-in-loop-end : goal.overflow-add-end-in-loop-end
-overflow-add-end-in-loop-end c = let h = fits_at c in search rules
+pub overflow_add-end-in-loop-end : goal.overflow_add-end-in-loop-end
+overflow_add-end-in-loop-end c = let h = fits_at c in search rules
 
 pub returns-else-rows-end : goal.returns-else-rows-end
 returns-else-rows-end c =

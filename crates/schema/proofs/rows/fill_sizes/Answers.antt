@@ -1,14 +1,12 @@
-use Rattle.std.proofs.Common.{◌≡◌, ℕ, ◌+◌, ◌-◌, ◌<◌, ◌≤◌, ◌++◌, length, take, drop, sym, ap, ◌∙◌, subst, append-nil, arith}
-use Rattle.std.proofs.lemmas.List.{take_all, drop_all}
-use Rattle.schema.specs.Rows.{sized}
+use Rattle.std.proofs.Common.{◌≡◌, ◌+◌, ◌-◌, drop, sym, ap, ◌∙◌, subst, arith}
 use Rattle.schema.proofs.Steps.{Known, done_from, done_known, fill_more, fill_none}
 use Rattle.schema.proofs.rows.fill_sizes.Goals as goal
 
 pub loop-i-init : goal.loop-i-init
 loop-i-init c = fill_none c.args.rows.now
 
-pub end-of-subtree-requires : goal.end-of-subtree-requires
-end-of-subtree-requires c =
+pub end_of_subtree-requires : goal.end_of_subtree-requires
+end_of_subtree-requires c =
     let n : (c.loop-i.i - 1) + 1 ≡ c.loop-i.i = omega (arith, c.loop-i-test.true) in
     record {
       at = omega (arith, c.loop-i-test.true, c.loop-i.auto.i, c.loop-i.auto.rows);
@@ -19,4 +17,4 @@ pub loop-i-preserved : goal.loop-i-preserved
 loop-i-preserved c =
     let n : c.loop-i.i ≡ (c.loop-i.i - 1) + 1 = omega (arith, c.loop-i-test.true) in
     fill_more (c.loop-i.i - 1) c.args.rows.now c.loop-i.rows (omega (arith, c.loop-i-test.true, c.loop-i.auto.i))
-    (c.loop-i.invariant ∙ ap (λ m. done_from m c.args.rows.now) n) _ (omega (arith, c.end-of-subtree.ensures))
+    (c.loop-i.invariant ∙ ap (λ m. done_from m c.args.rows.now) n) _ (omega (arith, c.end_of_subtree.ensures))

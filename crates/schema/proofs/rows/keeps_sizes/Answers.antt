@@ -1,4 +1,4 @@
-use Rattle.std.proofs.Common.{◌≡◌, ℕ, ◌+◌, ◌-◌, ◌<◌, ◌≤◌, true, false, eqb, length, get_or, drop, sym, ap, ◌∙◌, subst, arith}
+use Rattle.std.proofs.Common.{◌≡◌, ℕ, ◌+◌, ◌-◌, ◌<◌, ◌≤◌, true, eqb, length, get_or, drop, sym, ap, ◌∙◌, arith}
 use Rattle.std.proofs.lemmas.List.{drop_all}
 use Rattle.std.proofs.lemmas.Bool.{eq-eqb, ne_eqb}
 use Rattle.schema.specs.Elements.{empty}
@@ -9,8 +9,8 @@ use Rattle.schema.proofs.rows.keeps_sizes.Goals as goal
 pub loop-i-init : goal.loop-i-init
 loop-i-init c = ap sizes_kept (drop_all (length c.args.rows.now) c.args.rows.now (omega arith))
 
-pub end-of-subtree-requires : goal.end-of-subtree-requires
-end-of-subtree-requires c =
+pub end_of_subtree-requires : goal.end_of_subtree-requires
+end_of_subtree-requires c =
     let n : (c.loop-i.i - 1) + 1 ≡ c.loop-i.i = omega (arith, c.loop-i-test.true) in
     record {
       at = omega (arith, c.loop-i-test.true, c.loop-i.auto.i);
@@ -27,10 +27,10 @@ tested xs i end h l k e =
 
 pub returns-then-rows-i : goal.returns-then-rows-i
 returns-then-rows-i c =
-    let t = tested c.args.rows.now c.loop-i.i c.end-of-subtree.result c.loop-i-test.true c.loop-i.auto.i c.loop-i.invariant c.end-of-subtree.ensures in
+    let t = tested c.args.rows.now c.loop-i.i c.end_of_subtree.result c.loop-i-test.true c.loop-i.auto.i c.loop-i.invariant c.end_of_subtree.ensures in
     sym (sizes_wrong (c.loop-i.i - 1) c.args.rows.now (t ∙ ne_eqb _ _ c.if-rows-i.true))
 
 pub loop-i-preserved : goal.loop-i-preserved
 loop-i-preserved c =
-    let t = tested c.args.rows.now c.loop-i.i c.end-of-subtree.result c.loop-i-test.true c.loop-i.auto.i c.loop-i.invariant c.end-of-subtree.ensures in
+    let t = tested c.args.rows.now c.loop-i.i c.end_of_subtree.result c.loop-i-test.true c.loop-i.auto.i c.loop-i.invariant c.end_of_subtree.ensures in
     t ∙ eq-eqb _ _ c.if-rows-i.false

@@ -1,4 +1,4 @@
-use Rattle.std.proofs.Common.{◌≡◌, ℕ, ◌+◌, ◌-◌, ◌<◌, ◌≤◌, Bool, true, false, cond, List, ◌++◌, length, take, drop, sym, refl, ap, ◌∙◌, arith, rules}
+use Rattle.std.proofs.Common.{◌≡◌, ℕ, ◌+◌, Bool, true, false, cond, List, ◌++◌, length, take, drop, refl, ap, arith, rules}
 use borrow.Rule.Slice.PartMut.{put_mid}
 use mir.Val.{bool_byte}
 use Rattle.std.proofs.lemmas.List.{drop-drop}
@@ -24,8 +24,8 @@ returns c = record {
     room = search rules;
     more = search rules;
     count = refl;
-    groups = ap (λ n. c.args.self.now.groups + n) (byte_is _ _ c.is-group.ensures.group);
+    groups = ap (λ n. c.args.self.now.groups + n) (byte_is _ _ c.is_group.ensures.group);
     elements = refl;
-    names = put_is c.args.names.now c.copy-from-slice.new.self c.args.name.now c.args.self.now.bytes _ c.copy-from-slice.ensures.after (omega arith);
+    names = put_is c.args.names.now c.copy_from_slice.new.self c.args.name.now c.args.self.now.bytes _ c.copy_from_slice.ensures.after (omega arith);
   };
 }

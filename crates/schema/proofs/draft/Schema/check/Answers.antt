@@ -3,7 +3,7 @@ use Rattle.schema.proofs.draft.Schema.check.Goals as goal
 
 pub returns : goal.returns
 returns c = record {
-  told = c.keeps-memory.ensures;
-  tree = memory_decides c.args.self.now c.args.elements.now c.args.names.now c.keeps-memory.result c.keeps-memory.ensures;
-  law = λ h p. memory_law p c.keeps-memory.result c.keeps-memory.ensures;
+  told = c.keeps_memory.ensures;
+  tree = memory_decides c.args.self.now c.args.elements.now c.args.names.now c.keeps_memory.result c.keeps_memory.ensures;
+  law = λ h p. memory_law p c.keeps_memory.result c.keeps_memory.ensures;
 }

@@ -1,11 +1,11 @@
 -- Paths, levels and stretches of a finished schema's flat table, step by step.
-use Rattle.std.proofs.Common.{◌≡◌, ℕ, zero, suc, ◌+◌, ◌-◌, ◌<◌, ◌≤◌, Bool, true, false, cond, not, ◌&&◌, eqb, ltb, leb, ◌⊎◌, List, [], ◌∷◌, ◌++◌, length, get_or, take, drop, Some, None, filter, Option, sym, refl, ap, ◌∙◌, subst, ap₂, inl, inr, append_assoc, append-nil, add-one, arith, MatchOption}
+use Rattle.std.proofs.Common.{◌≡◌, ℕ, zero, suc, ◌+◌, ◌-◌, ◌<◌, ◌≤◌, Bool, true, false, cond, not, eqb, ltb, ◌⊎◌, List, [], ◌∷◌, ◌++◌, length, get_or, drop, Some, None, filter, Option, sym, refl, ap, ◌∙◌, subst, ap₂, inl, inr, append_assoc, add-one, arith, MatchOption}
 use Rattle.std.specs.List.{slice_get, range_with_len, flat_map}
-use Rattle.std.proofs.lemmas.Bool.{cond-true, cond-false, lt-ltb, le-ltb, eqb-true, eq-eqb, ne_eqb, cases_lt, and_parts}
-use Rattle.std.proofs.lemmas.List.{length-append, length-drop, length-map, get_or-drop, get_or-map, drop_more}
+use Rattle.std.proofs.lemmas.Bool.{cond-true, cond-false, lt-ltb, le-ltb, eq-eqb, ne_eqb, cases_lt, and_parts}
+use Rattle.std.proofs.lemmas.List.{length-append, length-drop, get_or-drop, get_or-map}
 use Rattle.std.proofs.lemmas.List.Elements.{filter-append}
-use Rattle.tree.specs.Forest.{Forest, alone, listing, Lists, size_at, children, tops, below_at, count, depth}
-use Rattle.tree.specs.Around.{holds_place, around, line}
+use Rattle.tree.specs.Forest.{Forest, alone, listing, Lists, size_at, children, below_at, count, depth}
+use Rattle.tree.specs.Around.{holds_place, around}
 use Rattle.tree.proofs.Ancestors.{ancestors, holds_yes, kept_by_skips}
 use Rattle.tree.proofs.Depths.{line_child, length_line, child_of}
 use Rattle.tree.proofs.Trees.{ends_within, below_rows, tops_first, tops_after, After, size_read}
@@ -13,10 +13,10 @@ use Rattle.schema.specs.declared.basic.Repetition.{Repetition}
 use Rattle.schema.specs.declared.basic.Repetition.TheVariants.{Required, Optional, Repeated}
 use Rattle.schema.specs.declared.element.Element.{Element}
 use Rattle.schema.specs.Elements.{element_span, is_group, empty}
-use Rattle.schema.specs.Rows.{IsFinished, deeper, depths_of, sizes_kept, finished_kept}
-use Rattle.schema.proofs.ByDepths.{row_depth, leaf_size, root_depth, depth_most, rows_long, kept_from_finished}
+use Rattle.schema.specs.Rows.{IsFinished, deeper, depths_of, sizes_kept}
+use Rattle.schema.proofs.ByDepths.{row_depth, leaf_size, depth_most, rows_long, kept_from_finished}
 use Rattle.schema.proofs.Steps.{Known, known_drop, known_from_kept, size_known}
-use Rattle.columns.specs.Levels.{row_at, path_of, repeats, may_miss, rep_level, def_level, to_repeated, repeated_def_level, roots_before, root_of, is_leaf, leaves_in, leaves_of}
+use Rattle.columns.specs.Levels.{row_at, path_of, repeats, may_miss, rep_level, def_level, to_repeated, repeated_def_level, roots_before, is_leaf, leaves_in}
 use Rattle.columns.specs.Listing.{column_of, columns_from, path_numbers}
 use Rattle.columns.specs.Walk.{leaves_at, leaves_below, place_of}
 

@@ -1,25 +1,22 @@
 -- The caller's tables as a whole.
-use Rattle.std.proofs.Common.{◌≡◌, ℕ, zero, suc, ◌+◌, ◌-◌, ◌<◌, ◌≤◌, Bool, true, false, cond, not, ◌&&◌, ◌||◌, eqb, ltb, ◌⊎◌, List, [], ◌∷◌, ◌++◌, length, get_or, take, drop, replicate, Some, None, Ok, Err, Result, sym, refl, ap, ◌∙◌, subst, ap₂, inl, inr, append-nil, arith, MatchResult}
+use Rattle.std.proofs.Common.{◌≡◌, ℕ, suc, ◌+◌, ◌-◌, ◌≤◌, Bool, true, false, cond, not, ◌&&◌, ◌||◌, eqb, ltb, List, [], ◌∷◌, ◌++◌, length, get_or, take, drop, replicate, Some, None, Ok, Err, Result, sym, refl, ap, ◌∙◌, subst, ap₂, append-nil, arith}
 use borrow.Rule.Slice.PartMut.{put_mid}
-use Rattle.std.proofs.lemmas.List.{drop_all, length-drop, length-append, take_rest, length-take-le}
-use Rattle.std.proofs.lemmas.Bool.{cond-true, cond-false, le-ltb, lt-ltb, eq-eqb, or_from, and_parts}
-use Rattle.tree.specs.Forest.{alone, size_at}
-use Rattle.tree.proofs.Trees.{ends_within}
+use Rattle.std.proofs.lemmas.List.{drop_all, length-drop, length-append, take_rest}
+use Rattle.std.proofs.lemmas.Bool.{le-ltb, lt-ltb, eq-eqb, or_from, and_parts}
 use Rattle.schema.specs.declared.element.Element.{Element}
 use Rattle.schema.specs.declared.element.Kind.{Kind}
 use Rattle.schema.specs.declared.element.Kind.TheVariants as k
-use Rattle.schema.specs.declared.draft.Schema.{Schema}
 use Rattle.schema.specs.declared.refusal.Refusal.{Refusal}
 use Rattle.schema.specs.declared.refusal.Refusal.TheVariants as no
-use Rattle.schema.specs.Elements.{element_span, is_group, empty}
+use Rattle.schema.specs.Elements.{is_group, empty}
 use Rattle.schema.specs.Posts.{first, refusal}
-use Rattle.schema.specs.Rows.{IsFinished, is_none, plain_group, named_inside, root_kept}
+use Rattle.schema.specs.Rows.{IsFinished, is_none, plain_group, named_inside}
 use Rattle.columns.specs.declared.column.Column.{Column}
 use Rattle.columns.specs.declared.record.PathRecord.{PathRecord}
 use Rattle.columns.specs.declared.leaves.Done.{Done}
-use Rattle.columns.specs.Levels.{row_at, path_of, rep_level, def_level, is_leaf, leaves_in, leaves_of}
-use Rattle.columns.specs.Listing.{walked_path, empty_column, columns_from, path_numbers, filled, list_refusal, Listing, LevelsBounded}
-use Rattle.columns.specs.Walk.{Wrote, leaves_at, leaves_below, Walked, used_of, answer_of}
+use Rattle.columns.specs.Levels.{row_at, path_of, is_leaf, leaves_in, leaves_of}
+use Rattle.columns.specs.Listing.{empty_column, columns_from, path_numbers, list_refusal, Listing, LevelsBounded}
+use Rattle.columns.specs.Walk.{Wrote, leaves_below, Walked, used_of, answer_of}
 use Rattle.columns.proofs.Paths.{leaves_split, group_at, path_most, rep_most, def_most, root_size, some_rows}
 
 -- a fill of all past a place

@@ -1,7 +1,6 @@
 -- What the walk writes, step by step, and how it leaves the path record.
-use Rattle.std.proofs.Common.{◌≡◌, ℕ, zero, suc, ◌+◌, ◌-◌, ◌<◌, ◌≤◌, Bool, true, false, cond, eqb, List, [], ◌∷◌, ◌++◌, length, take, drop, set, Ok, Err, Result, sym, refl, ap, ◌∙◌, subst, ap₂, append_assoc, append-nil, arith}
+use Rattle.std.proofs.Common.{◌≡◌, ℕ, ◌+◌, ◌-◌, ◌<◌, ◌≤◌, cond, List, [], ◌∷◌, ◌++◌, length, take, set, Ok, Err, Result, sym, refl, ap, ◌∙◌, subst, ap₂, append_assoc, append-nil, arith}
 use Rattle.std.proofs.lemmas.List.{length-append, take-take, take-set}
-use Rattle.std.proofs.lemmas.Bool.{cond-true, cond-false, eq-eqb, ne_eqb}
 use Rattle.tree.specs.Forest.{size_at}
 use Rattle.schema.specs.declared.element.Element.{Element}
 use Rattle.schema.specs.declared.refusal.Refusal.{Refusal}
@@ -11,8 +10,8 @@ use Rattle.columns.specs.declared.record.PathRecord.{PathRecord}
 use Rattle.columns.specs.declared.leaves.Done.{Done}
 use Rattle.columns.specs.declared.leaves.Levels.{Levels}
 use Rattle.columns.specs.Levels.{row_at, path_of, repeats, may_miss, rep_level, def_level, repeated_def_level, root_of, leaves_in}
-use Rattle.columns.specs.Listing.{walked_path, Restored, column_of, columns_from, path_numbers}
-use Rattle.columns.specs.Walk.{LevelsOf, Wrote, Appended, leaves_at, leaves_below}
+use Rattle.columns.specs.Listing.{Restored, columns_from, path_numbers}
+use Rattle.columns.specs.Walk.{LevelsOf, Wrote, Appended, leaves_below}
 use Rattle.columns.proofs.Paths.{leaves_split, columns_append, numbers_append, rep_push, def_push, nearest_push}
 
 -- The record.

@@ -12,8 +12,8 @@ use Rattle.columns.specs.declared.column.Column.{Column}
 use Rattle.columns.specs.declared.record.PathRecord.{PathRecord}
 use Rattle.columns.specs.declared.leaves.Done.{Done}
 use Rattle.columns.specs.declared.leaves.Levels.{Levels}
-use Rattle.columns.specs.Levels.{path_of, rep_level, def_level, repeated_def_level, root_of, leaves_in, leaves_of}
-use Rattle.columns.specs.Listing.{walked_path, column_of, columns_from, path_numbers, list_refusal}
+use Rattle.columns.specs.Levels.{rep_level, def_level, repeated_def_level, leaves_in, leaves_of}
+use Rattle.columns.specs.Listing.{walked_path, columns_from, path_numbers, list_refusal}
 
 -- the levels are those of a path
 pub record LevelsOf (rows : List Element) (is : List ℕ) (l : Levels) : Type 0 where

@@ -1,5 +1,6 @@
 // The columns of a finished schema: its leaves in order, with their highest levels and paths.
 #![tactic(auto)]
+
 mod column;
 mod leaves;
 mod record;

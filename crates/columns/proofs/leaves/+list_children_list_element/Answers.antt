@@ -1,10 +1,10 @@
-use Rattle.std.proofs.Common.{◌≡◌, ℕ, zero, suc, ◌+◌, ◌-◌, ◌*◌, ◌<◌, ◌≤◌, Bool, true, false, cond, eqb, ◌⊎◌, List, [], ◌∷◌, ◌++◌, length, take, Some, None, Ok, Err, Option, sym, refl, ap, ◌∙◌, subst, ap₂, inl, inr, arith, rules}
+use Rattle.std.proofs.Common.{◌≡◌, ℕ, zero, suc, ◌+◌, ◌-◌, ◌*◌, ◌<◌, ◌≤◌, cond, eqb, List, [], ◌∷◌, ◌++◌, length, Some, Ok, Option, sym, refl, ap, ◌∙◌, subst, arith, rules}
 use Rattle.std.specs.List.{slice_get}
 use Rattle.std.specs.Option.{SomeIff}
 use Rattle.std.proofs.lemmas.List.{length-append}
 use Rattle.std.proofs.lemmas.Result.{err_from_is_err_and}
-use Rattle.std.proofs.lemmas.Bool.{cond-true, cond-false, eq-eqb, ne_eqb, cases_eq}
-use Rattle.tree.specs.Forest.{Forest, alone, Lists, size_at, children, HasChild, HasNext}
+use Rattle.std.proofs.lemmas.Bool.{cond-false, ne_eqb}
+use Rattle.tree.specs.Forest.{alone, size_at, children, HasChild, HasNext}
 use Rattle.tree.specs.Walk.{Walk}
 use Rattle.tree.proofs.Trees.{ends_within, first_in_tree, next_in_tree}
 use Rattle.tree.proofs.Walks.{walk_none, walk_more}
@@ -13,10 +13,9 @@ use Rattle.schema.specs.declared.element.Element.{Element}
 use Rattle.schema.specs.Elements.{element_span}
 use Rattle.schema.specs.Rows.{IsFinished}
 use Rattle.schema.proofs.ByDepths.{depth_within}
-use Rattle.columns.specs.declared.leaves.Levels.{Levels}
-use Rattle.columns.specs.Levels.{row_at, path_of, rep_level, def_level, roots_before, root_of, leaves_in}
-use Rattle.columns.specs.Listing.{walked_path, Restored}
-use Rattle.columns.specs.Walk.{LevelsOf, Walking, Wrote, leaves_at, leaves_below, place_of}
+use Rattle.columns.specs.Levels.{path_of, roots_before, root_of, leaves_in}
+use Rattle.columns.specs.Listing.{walked_path}
+use Rattle.columns.specs.Walk.{LevelsOf, Wrote, leaves_at, leaves_below, place_of}
 use Rattle.columns.proofs.Paths.{path_child, path_long, path_most, leaf_at, group_at, roots_past, first_place, next_place, rep_most, def_most}
 use Rattle.columns.proofs.Writes.{restored_same, restored_on, left, levels_push, root_push, wrote_none, wrote_more, wrote_less, appended_wrote, split_at, split_on}
 use Rattle.columns.proofs.leaves.+list_children_list_element.Goals as goal

@@ -1,4 +1,4 @@
-use Rattle.std.proofs.Common.{◌≡◌, ℕ, ◌+◌, ◌-◌, ◌*◌, ◌≤◌, Ok}
+use Rattle.std.proofs.Common.{◌≡◌, ◌+◌, ◌-◌, ◌*◌, ◌≤◌, Ok}
 use Rattle.tree.specs.Forest.{size_at}
 use Rattle.tree.specs.Walk.{Walk, left}
 use Rattle.schema.specs.Elements.{element_span}

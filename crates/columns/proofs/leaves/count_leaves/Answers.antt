@@ -1,5 +1,5 @@
-use Rattle.std.proofs.Common.{◌≡◌, ℕ, ◌+◌, Bool, true, false, cond, not, length, sym, ap, ◌∙◌, arith}
-use Rattle.columns.specs.Levels.{is_leaf, leaves_in}
+use Rattle.std.proofs.Common.{◌≡◌, ℕ, cond, not, sym, ap, arith}
+use Rattle.columns.specs.Levels.{is_leaf}
 use Rattle.columns.proofs.Tables.{leaves_more}
 use Rattle.columns.proofs.leaves.count_leaves.Goals as goal
 use Rattle.columns.proofs.leaves.count_leaves.Goals.{then-not-is_group, else-not-is_group}

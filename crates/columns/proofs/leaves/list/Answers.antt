@@ -1,9 +1,9 @@
-use Rattle.std.proofs.Common.{◌≡◌, ◌-◌, Bool, true, ◌++◌, length, take, replicate, sym, refl, ap, ◌∙◌, subst}
-use Rattle.schema.specs.Posts.{refusal, memory_kept}
+use Rattle.std.proofs.Common.{◌-◌, ◌++◌, length, take, replicate, refl, ap, ◌∙◌}
+use Rattle.schema.specs.Posts.{memory_kept}
 use Rattle.schema.specs.Reach.{whole}
 use Rattle.schema.proofs.Told.{reached_holds, memory_decides, memory_law}
 use Rattle.columns.specs.Listing.{empty_column, list_refusal, Listing}
-use Rattle.columns.specs.Walk.{used_of, answer_of}
+use Rattle.columns.specs.Walk.{answer_of}
 use Rattle.columns.proofs.Tables.{listing, bounded_accepted}
 use Rattle.columns.proofs.leaves.list.Goals as goal
 

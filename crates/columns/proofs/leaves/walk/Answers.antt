@@ -1,4 +1,4 @@
-use Rattle.std.proofs.Common.{◌≡◌, ℕ, ◌-◌, Bool, true, List, take, sym, refl, ap, ◌∙◌, subst, arith}
+use Rattle.std.proofs.Common.{◌≡◌, ℕ, ◌-◌, Bool, true, List, take, sym, refl, ap, subst, arith}
 use Rattle.schema.specs.declared.element.Element.{Element}
 use Rattle.schema.specs.Rows.{IsFinished}
 use Rattle.columns.specs.Walk.{Walked}

@@ -1,11 +1,9 @@
-use Rattle.std.proofs.Common.{◌≡◌, ℕ, ◌+◌, ◌-◌, ◌<◌, ◌≤◌, true, false, not, ◌||◌, eqb, ltb, length, None, sym, refl, ap, ◌∙◌, arith}
-use Rattle.std.proofs.lemmas.Bool.{lt-ltb, ne_eqb, or_left, or_right}
+use Rattle.std.proofs.Common.{not, ◌||◌, eqb, ltb, length, None, sym, ap, arith}
+use Rattle.std.proofs.lemmas.Bool.{lt-ltb}
 use Rattle.schema.specs.declared.refusal.Refusal.TheVariants as no
 use Rattle.schema.specs.Posts.{first}
 use Rattle.columns.specs.Levels.{leaves_of}
 use Rattle.columns.specs.Listing.{path_numbers}
-use Rattle.columns.proofs.Paths.{some_rows}
-use Rattle.columns.proofs.Tables.{leaves_all, walked_all}
 use Rattle.columns.proofs.Writes.{restored_same}
 use Rattle.columns.proofs.leaves.walk_rows.Goals as goal
 

@@ -1,10 +1,10 @@
 -- The check of hint rows answers whether they are a hint.
-use Rattle.std.proofs.Common.{◌≡◌, ℕ, ◌+◌, ◌<◌, ◌≤◌, Bool, true, false, eqb, ◌⊎◌, List, [], ◌∷◌, ◌++◌, length, get_or, Decides, sym, refl, ap, ◌∙◌, subst, inl, inr, append-nil, arith, below_more}
-use Rattle.std.proofs.lemmas.Bool.{false≢true, eqb-true, eqb-false}
-use Rattle.tree.specs.Forest.{Forest, Tree, alone, listing, Lists, IsFlatTree, count, children}
+use Rattle.std.proofs.Common.{◌≡◌, ℕ, ◌+◌, ◌<◌, ◌≤◌, Bool, true, false, eqb, List, [], ◌∷◌, length, get_or, Decides, sym, refl, ap, ◌∙◌, subst, inl, inr, append-nil, arith, below_more}
+use Rattle.std.proofs.lemmas.Bool.{false≢true, eqb-true}
+use Rattle.tree.specs.Forest.{Forest, alone, listing, Lists, IsFlatTree, count, children}
 use Rattle.arrow.specs.declared.hint.HintRow.{HintRow}
 use Rattle.arrow.specs.Kinds.{hint_span}
-use Rattle.arrow.specs.HintTrees.{empty_hint, hint_kept, HintsKept, HintTree, IsHint, shallow, Lies}
+use Rattle.arrow.specs.HintTrees.{empty_hint, hint_kept, HintsKept, IsHint, shallow, Lies}
 use Rattle.arrow.proofs.Depths.{depth_below, below_depth}
 
 -- the loop over the rows

@@ -1,11 +1,10 @@
 -- How deep the rows of a hint lie.
 use Rattle.std.proofs.Common.{◌≡◌, ℕ, zero, suc, ◌+◌, ◌-◌, ◌<◌, ◌≤◌, Bool, true, false, ◌&&◌, List, [], ◌∷◌, ◌++◌, length, get_or, drop, sym, refl, ap, ◌∙◌, subst, inl, inr, append_assoc, add-one, arith, length-append}
 use Rattle.std.proofs.lemmas.Bool.{false≢true, cases_lt, lt-ltb, le-ltb, and_parts, and_from}
-use Rattle.tree.specs.Forest.{Forest, listing, count, Sized, depth}
+use Rattle.tree.specs.Forest.{Forest, listing, count, depth}
 use Rattle.tree.specs.Forest.Forest.{bare, plant}
 use Rattle.tree.proofs.Trees.{drop_next, drop_past}
 use Rattle.arrow.specs.declared.hint.HintRow.{HintRow}
-use Rattle.arrow.specs.Kinds.{hint_span}
 use Rattle.arrow.specs.HintTrees.{empty_hint, shallow, Lies}
 
 -- the first row of what is left

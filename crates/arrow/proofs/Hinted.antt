@@ -1,5 +1,5 @@
 -- What a hint makes of a type, by the rows' numbers.
-use Rattle.std.proofs.Common.{◌≡◌, ℕ, ◌+◌, ◌<◌, ◌≤◌, Bool, true, false, List, [], ◌∷◌, length, get_or, drop, refl}
+use Rattle.std.proofs.Common.{◌≡◌, ℕ, ◌+◌, ◌<◌, ◌≤◌, Bool, true, false, List, length, get_or, drop, refl}
 use Rattle.std.proofs.lemmas.List.{drop_all, drop_more}
 use Rattle.arrow.specs.declared.types.ArrowType.{ArrowType}
 use Rattle.arrow.specs.declared.hint.HintRow.{HintRow}

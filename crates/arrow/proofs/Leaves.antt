@@ -1,8 +1,8 @@
 -- The laws of leaf types.
-use Rattle.std.proofs.Common.{◌≡◌, ℕ, zero, suc, ◌+◌, ◌<◌, ◌≤◌, Bool, true, false, cond, ◌&&◌, eqb, ltb, leb, ◌⊎◌, List, [], ◌∷◌, ◌++◌, length, get_or, drop, ℤ, pos, negsuc, Some, None, Option, sym, refl, ap, ◌∙◌, subst, inl, inr, append_assoc, append-nil, add-one, arith, length-append}
+use Rattle.std.proofs.Common.{◌≡◌, ℕ, zero, suc, ◌+◌, ◌<◌, ◌≤◌, Bool, true, false, cond, ◌&&◌, eqb, ltb, leb, ◌⊎◌, List, [], ◌∷◌, ◌++◌, length, drop, ℤ, pos, negsuc, Some, None, Option, sym, refl, ap, ◌∙◌, subst, inl, inr, append_assoc, append-nil, add-one, arith, length-append}
 use lib.Signed.{le_z}
 use Rattle.std.proofs.lemmas.List.{drop_all}
-use Rattle.std.proofs.lemmas.Bool.{false≢true, true≢false, cases_Bool, and_parts, and_from, and_right, leb-true, le-leb, ltb-true, ne_eqb, eq-eqb}
+use Rattle.std.proofs.lemmas.Bool.{false≢true, true≢false, cases_Bool, and_parts, and_from, and_right, leb-true, le-leb, ne_eqb, eq-eqb}
 use Rattle.tree.specs.Forest.{Forest, listing, count, Sized, Lists, below_at}
 use Rattle.tree.specs.Forest.Forest.{bare, plant}
 use Rattle.tree.proofs.Trees.{drop_next, seen_at}
@@ -23,12 +23,12 @@ use Rattle.arrow.specs.Kinds.{hint_span}
 use Rattle.arrow.specs.Same.{meaning}
 use Rattle.arrow.specs.HintTrees.{empty_hint}
 use Rattle.arrow.specs.Annotations.{Annotation, annotation, first_told, by_converted, plain, unknown, string, enum, json, bson, uuid, float16, date, interval, nested, decimal, integer, time, timestamp}
-use Rattle.arrow.specs.Table.{Answer, unit_of, zone_by, int_on_32, int_on_64, time_on_32, time_on_64, tellable, decimal_128, decimal_256, decimal_by_digits, decimal_by_length, at_length, row, row_of, column, known, leaf_type}
-use Rattle.arrow.specs.Hints.{view, is_dictionary, only_child, told, takes, kept, hinted, if_alone, hinted_by}
+use Rattle.arrow.specs.Table.{Answer, unit_of, zone_by, int_on_32, int_on_64, time_on_32, time_on_64, tellable, decimal_128, decimal_256, decimal_by_length, at_length, row, row_of, column, known, leaf_type}
+use Rattle.arrow.specs.Hints.{view, is_dictionary, only_child, told, takes, kept, hinted, hinted_by}
 use Rattle.arrow.specs.Convert.{unit_fixed, under_hint, if_typed, converted_leaf, typed_under}
 use Rattle.arrow.specs.Laws.{scale_of, stamp_unit, last_value, values, row_at, LeafLaws}
 use Rattle.arrow.proofs.Depths.{getD_first}
-use Rattle.arrow.proofs.Ways.{same_dictionary, same_scale, same_stamp_unit, takes_scale, takes_unit, Took, Kept, Way, way}
+use Rattle.arrow.proofs.Ways.{same_dictionary, same_scale, same_stamp_unit, takes_scale, takes_unit, way}
 
 -- A property that the leaf's own type has, and every hint that is taken, holds of the values.
 

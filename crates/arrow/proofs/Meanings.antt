@@ -1,6 +1,6 @@
 -- When two types mean the same: the test decides whether their meanings are equal.
-use Rattle.std.proofs.Common.{◌≡◌, ℕ, Bool, true, false, cond, ◌&&◌, eqb, List, [], ◌∷◌, get_or, ℤ, pos, negsuc, Some, None, Decides, Option, sym, refl, ap, ◌∙◌, ap₂, arith, Bor}
-use Rattle.std.specs.Cmp.Lexicographic.{Matches}
+use Rattle.std.proofs.Common.{◌≡◌, ℕ, Bool, true, false, cond, ◌&&◌, eqb, List, [], ◌∷◌, get_or, ℤ, pos, negsuc, Some, None, Decides, Option, sym, refl, ap, ◌∙◌, ap₂, Bor}
+use Rattle.std.specs.Cmp.Lexicographic.{pointwise}
 use Rattle.std.specs.Str.{bytes_eq}
 use Rattle.std.proofs.lemmas.Bool.{false≢true}
 use Rattle.std.proofs.lemmas.Slice.Eq.{slice_eq-Decides, bytes_eq-Decides}
@@ -9,8 +9,7 @@ use Rattle.arrow.specs.declared.types.TimeUnit.{TimeUnit}
 use Rattle.arrow.specs.declared.types.TimeUnit.TheVariants.{Second, Millisecond, Microsecond, Nanosecond}
 use Rattle.arrow.specs.declared.types.IntervalUnit.{IntervalUnit}
 use Rattle.arrow.specs.declared.types.IntervalUnit.TheVariants.{YearMonth, DayTime, MonthDayNano}
-use Rattle.arrow.specs.declared.types.Zone.{Zone}
-use Rattle.arrow.specs.declared.types.Zone.TheVariants.{Absent, Utc, Text}
+use Rattle.arrow.specs.declared.types.Zone.TheVariants.{Absent}
 use Rattle.arrow.specs.declared.types.ArrowType.{ArrowType}
 use Rattle.arrow.specs.declared.types.ArrowType.TheVariants as a
 use Rattle.arrow.specs.Same.{Spells, spelled, alike_if_any, same_zone, zone_of, unit_number, interval_number, code, same_number, same_code, same, bared, meaning}
@@ -24,7 +23,7 @@ alike_decides (Some x) None = (λ e. absurd (false≢true e), λ e. cc)
 alike_decides (Some x) (Some y) = Decides-like (bytes_eq x y) (λ e. ap Some e) (λ e. cc) (bytes_eq-Decides x y)
 
 -- two spellings that were lent, compared
-pub lent_alike : (o p : Option (List ℕ)) (x y : Bor (List ℕ)) (r : Bool) → Spells o (Some x) → Spells p (Some y) → Matches (λ (m n : ℕ) (t : Bool). Decides t (m ≡ n)) x.now y.now r → r ≡ alike_if_any o p
+pub lent_alike : (o p : Option (List ℕ)) (x y : Bor (List ℕ)) (r : Bool) → Spells o (Some x) → Spells p (Some y) → r ≡ pointwise eqb x.now y.now → r ≡ alike_if_any o p
 lent_alike None p x y r h k m = absurd h
 lent_alike (Some s) None x y r h k m = absurd k
 lent_alike (Some s) (Some t) x y r h k m =

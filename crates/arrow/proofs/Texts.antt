@@ -1,7 +1,7 @@
 -- What lies at a place of the hint text.
-use Rattle.std.proofs.Common.{◌≡◌, ℕ, ◌-◌, ◌<◌, ◌≤◌, List, [], ◌∷◌, length, take, drop, sym, refl, ap, ◌∙◌, arith, length-drop}
+use Rattle.std.proofs.Common.{◌≡◌, ℕ, ◌-◌, ◌<◌, List, [], length, take, drop, sym, ap, ◌∙◌, arith, length-drop}
 use lib.Seq.{take-nil}
-use Rattle.std.proofs.lemmas.List.{take_all, take-take, drop_all}
+use Rattle.std.proofs.lemmas.List.{take_all, drop_all}
 
 module _ (text : List ℕ) (start n : ℕ) where
   whole : take (length text - start) (drop start text) ≡ drop start text

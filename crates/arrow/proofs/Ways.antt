@@ -1,16 +1,14 @@
 -- What a hint does to a leaf's own type: it leaves it, is taken as it stands, or is a dictionary that is kept.
-use Rattle.std.proofs.Common.{◌≡◌, ℕ, ◌+◌, Bool, true, false, cond, not, ◌&&◌, ◌||◌, eqb, ◌⊎◌, List, [], ◌∷◌, ℤ, Some, None, Option, sym, refl, ap, ◌∙◌, subst, inl, inr, arith}
-use Rattle.std.proofs.lemmas.Bool.{false≢true, true≢false, cases_Bool, and_parts, or_cases, eqb-true}
+use Rattle.std.proofs.Common.{◌≡◌, ℕ, ◌+◌, Bool, true, false, not, ◌&&◌, eqb, ◌⊎◌, List, [], ◌∷◌, ℤ, Some, sym, refl, ap, ◌∙◌, subst, inl, inr, arith}
+use Rattle.std.proofs.lemmas.Bool.{false≢true, cases_Bool, and_parts, or_cases, eqb-true}
 use Rattle.arrow.specs.declared.types.TimeUnit.{TimeUnit}
-use Rattle.arrow.specs.declared.types.TimeUnit.TheVariants.{Second, Millisecond, Microsecond, Nanosecond}
-use Rattle.arrow.specs.declared.types.Zone.{Zone}
 use Rattle.arrow.specs.declared.types.Zone.TheVariants.{Absent}
 use Rattle.arrow.specs.declared.types.ArrowType.{ArrowType}
 use Rattle.arrow.specs.declared.types.ArrowType.TheVariants as a
 use Rattle.arrow.specs.declared.hint.HintRow.{HintRow}
 use Rattle.arrow.specs.Same.{same, bared, meaning, unit_number}
-use Rattle.arrow.specs.Hints.{View, view, named, stamp, decimal, dictionary, dictionary_seen, is_dictionary, only_child, told, takes, takes_stamp, same_unit, zoneless, plain_hint, kept, hinted}
-use Rattle.arrow.specs.Laws.{scale_seen, unit_seen, scale_of, stamp_unit, last_value}
+use Rattle.arrow.specs.Hints.{View, view, named, stamp, decimal, dictionary, dictionary_seen, is_dictionary, only_child, told, takes, same_unit, zoneless, hinted}
+use Rattle.arrow.specs.Laws.{scale_seen, unit_seen, scale_of, stamp_unit}
 use Rattle.arrow.proofs.Meanings.{same_decides, same_refl, same_number_decides, unit_same}
 
 -- What types of one meaning share.

@@ -1,7 +1,7 @@
 -- What a leaf is annotated as: by its logical type, and only without one by its converted type.
 use Rattle.std.specs.Prelude.{Bool, true, false, ℤ, pos, Some, None, Option}
 use Rattle.schema.specs.declared.basic.TimeUnit.{TimeUnit}
-use Rattle.schema.specs.declared.basic.TimeUnit.TheVariants.{Millis, Micros, Nanos}
+use Rattle.schema.specs.declared.basic.TimeUnit.TheVariants.{Millis, Micros}
 use Rattle.schema.specs.declared.basic.LogicalType.{LogicalType}
 use Rattle.schema.specs.declared.basic.LogicalType.TheVariants as l
 use Rattle.schema.specs.declared.basic.ConvertedType.{ConvertedType}

@@ -1,5 +1,5 @@
 -- Which rows are a hint.
-use Rattle.std.specs.Prelude.{◌≡◌, ℕ, zero, suc, ◌+◌, ◌<◌, ◌≤◌, Bool, true, false, ◌&&◌, ◌⊎◌, List, [], ◌∷◌, ◌++◌, length, drop, ◌==◌, nat_le, slice_index_or}
+use Rattle.std.specs.Prelude.{◌≡◌, ℕ, zero, suc, ◌+◌, ◌<◌, ◌≤◌, Bool, true, false, ◌&&◌, ◌⊎◌, List, [], ◌++◌, length, drop, ◌==◌, nat_le, slice_index_or}
 use Rattle.tree.specs.Forest.{Forest, Tree, alone, listing, Sized, Lists, depth, children}
 use Rattle.tree.specs.Forest.Forest.{bare, plant}
 use Rattle.arrow.specs.declared.types.TextPlace.{TextPlace}

@@ -7,7 +7,7 @@ use Rattle.schema.specs.declared.basic.TimeUnit.TheVariants.{Millis, Micros, Nan
 use Rattle.schema.specs.declared.element.Leaf.{Leaf}
 use Rattle.schema.specs.Decimals.{digits}
 use Rattle.arrow.specs.declared.types.TimeUnit.{TimeUnit}
-use Rattle.arrow.specs.declared.types.TimeUnit.TheVariants.{Second, Millisecond, Microsecond, Nanosecond}
+use Rattle.arrow.specs.declared.types.TimeUnit.TheVariants.{Millisecond, Microsecond, Nanosecond}
 use Rattle.arrow.specs.declared.types.IntervalUnit.TheVariants.{DayTime}
 use Rattle.arrow.specs.declared.types.Zone.{Zone}
 use Rattle.arrow.specs.declared.types.Zone.TheVariants.{Absent, Utc}

@@ -1,5 +1,6 @@
 // Arrow's side: types, hint rows, result rows, and the Arrow types of leaves.
 #![tactic(auto)]
+
 mod hint;
 mod primitive;
 mod row;

@@ -6,7 +6,7 @@ use Rattle.std.proofs.lemmas.List.{get_or_past, get_or-set_same, get_or-set_othe
 use Rattle.std.proofs.lemmas.Bool.{cases_lt, cases_eq, eq-eqb, ne_eqb, le-leb, cond-true, and_left, le-ltb}
 use Rattle.schema.specs.declared.refusal.Refusal.{Refusal}
 use Rattle.schema.specs.declared.refusal.Refusal.TheVariants as no
-use Rattle.schema.specs.Posts.{refusal, first}
+use Rattle.schema.specs.Posts.{first}
 use Rattle.columns.specs.declared.column.Column.{Column}
 use Rattle.selection.specs.Sets.{in_flags, in_roots, union, below}
 use Rattle.selection.specs.Flagging.{Flagging, in_accepted, Flag, Flagged, untouched, flagged}

@@ -1,5 +1,6 @@
 // Which leaves to read: sets of leaf numbers, asked for one number at a time.
 #![tactic(auto)]
+
 mod choice;
 mod choosing;
 mod flagging;

@@ -6,4 +6,4 @@ use Rattle.arrow.specs.HintTrees.{hint_kept, empty_hint}
 use Rattle.arrow.proofs.hint.keeps_hints.Given as goal
 
 abbrev pub invariant-loop-i : goal.invariant-loop-i
-invariant-loop-i l = (f : Forest HintRow) → Lists hint_span f l.rows → (k : ℕ) → k < l.i → hint_kept l.«text-length» (get_or l.rows k empty_hint) (length (children f k)) ≡ true
+invariant-loop-i l = (f : Forest HintRow) → Lists hint_span f l.rows → (k : ℕ) → k < l.i → hint_kept l.«text_length» (get_or l.rows k empty_hint) (length (children f k)) ≡ true

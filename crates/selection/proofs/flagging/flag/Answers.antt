@@ -3,4 +3,4 @@ use Rattle.selection.proofs.Marks.{flagged_holds}
 use Rattle.selection.proofs.flagging.flag.Goals as goal
 
 pub returns : goal.returns
-returns c = record { told = c.«set-flag».ensures; law = λ start h p n. flagged_holds start n (flagged p c.«set-flag».ensures) }
+returns c = record { told = c.set_flag.ensures; law = λ start h p n. flagged_holds start n (flagged p c.set_flag.ensures) }

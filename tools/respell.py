@@ -28,7 +28,7 @@ BOUND = (
 NAME = r"[^\s(){}.;,@\"«»:λ→×≡∷∙]+"
 HEAD = re.compile(rf"^\s*(?:(?:pub|abbrev|unfoldable)\s+)*(?:record|data)\s+(?:pub\s+)?({NAME})")
 DECLARED = re.compile(rf"^\s*(?:(?:pub|abbrev|unfoldable)\s+)*((?:{NAME}\s+)*?{NAME})\s+:\s+(.*)")
-LIBRARY = re.compile(r"use (?:Rattle\.(?:std|core)|borrow|denote)[\w.]*\.\{([^}]*)\}")
+LIBRARY = re.compile(r"use (?:Rattle\.(?:std|core)|borrow|denote|mathlib)[\w.]*\.\{([^}]*)\}")
 # A word of antt; what stands before it tells whether it is a step of the code.
 WORD = re.compile(r"[^\s(){}.;,@\"«»:\[\]|`]+")
 STEP = re.compile(r"(?:^|[\s({\[,;])(?:c|w|l|goal|given|fn|initial|auto)(?:\.\d+)?\.$")

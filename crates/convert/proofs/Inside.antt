@@ -78,9 +78,9 @@ followed_more : (xs ys : List Line) (o : Outcome) → followed (Ok xs) (followed
 followed_more xs ys (Err e) = refl
 followed_more xs ys (Ok zs) = ap Ok (sym (append_assoc xs ys zs))
 
-map_append : {A B : Type 0} (f : A → B) (xs ys : List A) → map f (xs ++ ys) ≡ map f xs ++ map f ys
-map_append f [] ys = refl
-map_append f (x ∷ xs) ys = ap (λ l. f x ∷ l) (map_append f xs ys)
+map-append : {A B : Type 0} (f : A → B) (xs ys : List A) → map f (xs ++ ys) ≡ map f xs ++ map f ys
+map-append f [] ys = refl
+map-append f (x ∷ xs) ys = ap (λ l. f x ∷ l) (map-append f xs ys)
 
 length-map : {A B : Type 0} (f : A → B) (xs : List A) → length (map f xs) ≡ length xs
 length-map f [] = refl
@@ -262,7 +262,7 @@ module _ {s : Input} {i : ℕ} {v : Levels} {hint : Option ℕ} {start : Cursor}
           is = apart child e n
               ∙ ap (λ (o : Outcome). followed (Ok (map (line_of s.names) h.rows)) (followed o (gives_all s (child + (1 + count b)) (next_leaf s.names k x b) v true (others h.more) c))) w.is
               ∙ followed_more (map (line_of s.names) h.rows) (map (line_of s.names) w.rows) (gives_all s (child + (1 + count b)) (next_leaf s.names k x b) v true (others h.more) c)
-              ∙ ap₂ (λ (ys : List Line) (m : ℕ). followed (Ok ys) (gives_all s (child + m) (next_leaf s.names k x b) v true (others h.more) c)) (sym (map_append (line_of s.names) h.rows w.rows)) (sym z)
+              ∙ ap₂ (λ (ys : List Line) (m : ℕ). followed (Ok ys) (gives_all s (child + m) (next_leaf s.names k x b) v true (others h.more) c)) (sym (map-append (line_of s.names) h.rows w.rows)) (sym z)
               ∙ ap (λ (m : ℕ). followed (Ok (map (line_of s.names) (h.rows ++ w.rows))) (gives_all s (child + size_at element_span s.elements child) m v true (others h.more) c)) (sym w.counts)
               ∙ ap (followed (Ok (map (line_of s.names) (h.rows ++ w.rows))))
               (spot_any s i (child + size_at element_span s.elements child) cursor'.leaf v (others h.more) next' c left'

@@ -22,9 +22,9 @@ sized_row n r = record {
   entries = r.entries;
 }
 
-map_append : {A B : Type 0} (f : A → B) (xs ys : List A) → map f (xs ++ ys) ≡ map f xs ++ map f ys
-map_append f [] ys = refl
-map_append f (x ∷ xs) ys = ap (λ l. f x ∷ l) (map_append f xs ys)
+map-append : {A B : Type 0} (f : A → B) (xs ys : List A) → map f (xs ++ ys) ≡ map f xs ++ map f ys
+map-append f [] ys = refl
+map-append f (x ∷ xs) ys = ap (λ l. f x ∷ l) (map-append f xs ys)
 
 length-map : {A B : Type 0} (f : A → B) (xs : List A) → length (map f xs) ≡ length xs
 length-map f [] = refl
@@ -52,7 +52,7 @@ module _ (names : List ℕ) where
   wrote_both o p start one two before mid out middle cursor w x =
       record {
         rows = w.rows ++ x.rows;
-        is = (ap (λ y. followed y p) w.is ∙ ap (followed (Ok (map (line_of names) w.rows))) x.is) ∙ ap Ok (sym (map_append (line_of names) w.rows x.rows));
+        is = (ap (λ y. followed y p) w.is ∙ ap (followed (Ok (map (line_of names) w.rows))) x.is) ∙ ap Ok (sym (map-append (line_of names) w.rows x.rows));
         ends = omega (arith, w.ends, x.ends, length-append w.rows x.rows);
         counts = x.counts;
         kept = x.kept ∙ ap (λ (l : List ResultRow). l ++ x.rows) w.kept ∙ append_assoc (take start before) w.rows x.rows;

@@ -1,5 +1,6 @@
 // A selection written outside the library: the leaves with odd numbers.
 #![tactic(auto)]
+
 ghost use Rattle.std.specs.Prelude.{◌%◌, ◌==◌};
 
 use selection::Selection;

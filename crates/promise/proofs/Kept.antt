@@ -1,6 +1,6 @@
 -- The promise, from what every conversion does.
 use Rattle.std.proofs.Common.{◌≡◌, ℕ, ◌+◌, ◌*◌, ◌<◌, ◌≤◌, Bool, true, false, ◌&&◌, ◌||◌, ltb, ◌⊎◌, List, [], ◌∷◌, ◌++◌, map, length, get_or, take, replicate, Some, None, Ok, Err, filter, Result, sym, refl, ap, ◌∙◌, subst, ap₂, inl, inr, arith}
-use Rattle.std.specs.List.{range_with_len, AllByRecursion as All}
+use Rattle.std.specs.List.{range_with_len, AllByRecursion}
 use Rattle.std.proofs.lemmas.List.FromFn.{take-map-range_with_len, fill_by_all, get_or-map-range_with_len, length-map-range_with_len}
 use Rattle.std.proofs.ByRecursion.{All-get_or}
 use Rattle.std.proofs.lemmas.List.{take_at, get_or_append_left}
@@ -70,12 +70,12 @@ same_err e o = cc
 true_not_false : {b : Bool} → b ≡ true → b ≡ false → ⊥
 true_not_false e o = let z : ◌≡◌ {A = ℕ} 0 1 = cc in omega arith
 
-all_unmap : {A B : Type 0} (P : B → Type 0) (f : A → B) (xs : List A) → All P (map f xs) → All (λ x. P (f x)) xs
+all_unmap : {A B : Type 0} (P : B → Type 0) (f : A → B) (xs : List A) → AllByRecursion P (map f xs) → AllByRecursion (λ x. P (f x)) xs
 all_unmap P f [] t = tt
 all_unmap P f (x ∷ xs) t = (t.0, all_unmap P f xs t.1)
 
-first_of_all : {A : Type 0} (P : A → Type 0) (xs ys : List A) (x : A) → xs ≡ x ∷ ys → All P xs → P x
-first_of_all P xs ys x e t = (subst (All P) e t).0
+first_of_all : {A : Type 0} (P : A → Type 0) (xs ys : List A) (x : A) → xs ≡ x ∷ ys → AllByRecursion P xs → P x
+first_of_all P xs ys x e t = (subst (AllByRecursion P) e t).0
 
 neither : (a b : Bool) → (a || b) ≡ false → (a ≡ false) × (b ≡ false)
 neither true b e = absurd (true_not_false refl e)
@@ -178,8 +178,8 @@ module _ (c : Conversion) where
       numbers_right : (k.leaf < length (leaves_of (counted c))) × (get_or (leaves_of (counted c)) k.leaf 0 ≡ k.element)
       numbers_right =
           let P : Row → Type 0 = RightNumbers (counted c) in
-          let all : All P (filter row_leaf (map plain_row used)) =
-          subst (All P) (sym (ap (λ (l : List ResultRow). filter row_leaf (map plain_row l)) (sym used_is) ∙ leaf_rows_kept)) (kept_right c.names c.schema.bytes (counted c) fin c.chosen) in
+          let all : AllByRecursion P (filter row_leaf (map plain_row used)) =
+          subst (AllByRecursion P) (sym (ap (λ (l : List ResultRow). filter row_leaf (map plain_row l)) (sym used_is) ∙ leaf_rows_kept)) (kept_right c.names c.schema.bytes (counted c) fin c.chosen) in
           let each = all_unmap (λ (r : Row). row_leaf r ≡ true → P r) plain_row used (all_passing P row_leaf (map plain_row used) all) in
           All-get_or (λ (r : ResultRow). row_leaf (plain_row r) ≡ true → P (plain_row r)) used q empty_row in_used each (ap is_leaf_row kind_used) k kind_used
 
@@ -204,15 +204,15 @@ module _ (c : Conversion) where
           }
 
     -- R ≤ D ≤ 64
-    pub rows_low : All Low (in_use c n)
+    pub rows_low : AllByRecursion Low (in_use c n)
     rows_low =
         let plain : relabel full_row d.walk ≡ plain_rows c.chosen tree_shown =
         sym (relabel_twice (λ (s : Shaped). s.row) shaped_row d.walk)
         ∙ ap (relabel (λ (s : Shaped). s.row)) (has_shape typing c.chosen hints_given tree_shown d.walk d.walked)
         ∙ relabel_twice (λ (s : Shaped). s.row) shaped_of (rows c.chosen tree_shown) in
-        subst (All Low) (sym used_is)
+        subst (AllByRecursion Low) (sym used_is)
         (all_unmap (LowRow 64) plain_row used
-        (subst (All (LowRow 64)) (sym (plain_shown ∙ ap listing plain)) (levels_bounded c.chosen c.names c.schema.bytes fin.0 (counted c) fin.1)))
+        (subst (AllByRecursion (LowRow 64)) (sym (plain_shown ∙ ap listing plain)) (levels_bounded c.chosen c.names c.schema.bytes fin.0 (counted c) fin.1)))
 
     -- the flags of the leaves
     pub flags_used : take (leaves c) c.flags ≡ map (below (leaves c) c.chosen) (range_with_len 0 (leaves c))

@@ -1,7 +1,7 @@
 -- The leaves of a schema, by their numbers, and the columns of a listing.
 use Rattle.std.proofs.Common.{◌≡◌, ℕ, zero, suc, ◌+◌, ◌<◌, ◌≤◌, Bool, true, false, cond, List, [], ◌∷◌, ◌++◌, map, length, get_or, take, Ok, filter, sym, refl, ap, ◌∙◌, subst, ap₂, arith}
 use lib.ListN.{length-map}
-use Rattle.std.specs.List.{range_with_len, AllByRecursion as All}
+use Rattle.std.specs.List.{range_with_len, AllByRecursion}
 use Rattle.std.proofs.lemmas.List.FromFn.{length-range_with_len, get_or-range_with_len}
 use Rattle.std.proofs.ByRecursion.{all_from_every, All-get_or, all_kept_by, All-map}
 use Rattle.std.proofs.lemmas.List.{get_or_append_left, get_or-map}
@@ -93,22 +93,22 @@ module _ (names : List ℕ) (bytes : ℕ) (elements : List Element) (fin : IsFin
         ap (λ (i : ℕ). get_or (leaves_of elements) i 0) is ∙ sym element ∙ ap (λ (n : LeafNumbers). n.element) same,
       )
 
-  pub kept_right : (chosen : ℕ → Bool) → All (RightNumbers elements) (map leaf_row_of (kept_leaves chosen tree_shown))
+  pub kept_right : (chosen : ℕ → Bool) → AllByRecursion (RightNumbers elements) (map leaf_row_of (kept_leaves chosen tree_shown))
   kept_right chosen =
       All-map (RightNumbers elements) leaf_row_of (kept_leaves chosen tree_shown)
       (all_kept_by (kept_leaf chosen) (λ w. RightNumbers elements (leaf_row_of w)) (leaves tree_shown)
       (all_from_every (λ w. RightNumbers elements (leaf_row_of w)) (leaves tree_shown) leaf_at))
 
 -- what holds of all that is kept holds of all that passes
-pub all_passing : {A : Type 0} (P : A → Type 0) (p : A → Bool) (xs : List A) → All P (filter p xs) → All (λ x. p x ≡ true → P x) xs
+pub all_passing : {A : Type 0} (P : A → Type 0) (p : A → Bool) (xs : List A) → AllByRecursion P (filter p xs) → AllByRecursion (λ x. p x ≡ true → P x) xs
 all_passing P p [] t = tt
 all_passing {A} P p (x ∷ xs) t = go (p x) refl t (all_passing P p xs)
   where
     differ : true ≡ false → ⊥
     differ z = let y : ◌≡◌ {A = ℕ} 0 1 = cc in omega arith
 
-    go : (b : Bool) → p x ≡ b → All P (cond b (x ∷ filter p xs) (filter p xs)) → (All P (filter p xs) → All (λ y. p y ≡ true → P y) xs)
-        → (p x ≡ true → P x) × All (λ y. p y ≡ true → P y) xs
+    go : (b : Bool) → p x ≡ b → AllByRecursion P (cond b (x ∷ filter p xs) (filter p xs)) → (AllByRecursion P (filter p xs) → AllByRecursion (λ y. p y ≡ true → P y) xs)
+        → (p x ≡ true → P x) × AllByRecursion (λ y. p y ≡ true → P y) xs
     go true e s more = ((λ h. s.0), more s.1)
     go false e s more = ((λ h. absurd (differ (sym h ∙ e))), more s)
 

@@ -1,6 +1,6 @@
 -- The rows of a walk, flat, and a table that shows them.
 use Rattle.std.proofs.Common.{◌≡◌, ℕ, suc, ◌+◌, ◌<◌, List, [], ◌∷◌, ◌++◌, map, length, get_or, take, drop, Some, sym, refl, ap, ◌∙◌, subst, ap₂, arith, length-append}
-use mathlib.Core.List.{map_append}
+use mathlib.Core.List.{map-append}
 use lib.ListN.{length-map}
 use Rattle.std.proofs.lemmas.List.{take_at, drop_at, take-map, drop-map, take-append-drop, get_or-map}
 use Rattle.tree.specs.Forest.{Forest, Lists, Sized, count, listing}
@@ -32,7 +32,7 @@ lines_relabel : {B : Type 0} (g : Full → B) (f : Forest Full) → map (λ (l :
 lines_relabel g bare = refl
 lines_relabel {B} g (plant r b a) =
     ap {B = List B} (λ (l : List B). g r ∷ l)
-    (map_append (λ (l : Line). g l.row) (lines b) (lines a) ∙ ap₂ (λ (x y : List B). x ++ y) (lines_relabel g b) (lines_relabel g a))
+    (map-append (λ (l : Line). g l.row) (lines b) (lines a) ∙ ap₂ (λ (x y : List B). x ++ y) (lines_relabel g b) (lines_relabel g a))
 
 abbrev sized_line : Line → SizedRow
 sized_line l = record { row = l.row.shaped.row; size = l.size }
@@ -41,7 +41,7 @@ lines_table : (f : Forest Full) → map sized_line (lines f) ≡ table_of (relab
 lines_table bare = refl
 lines_table (plant r b a) =
     ap₂ {C = List SizedRow} (λ (n : ℕ) (l : List SizedRow). record { row = r.shaped.row; size = suc n } ∷ l) (sym (count_relabel full_row b))
-    (map_append sized_line (lines b) (lines a) ∙ ap₂ (λ (x y : List SizedRow). x ++ y) (lines_table b) (lines_table a))
+    (map-append sized_line (lines b) (lines a) ∙ ap₂ (λ (x y : List SizedRow). x ++ y) (lines_table b) (lines_table a))
 
 abbrev outline_line : Line → Outline
 outline_line l = record { size = l.size; shaped = l.row.shaped }
@@ -54,7 +54,7 @@ lines_outlines : (f : Forest Full) → map outline_line (lines f) ≡ outlines (
 lines_outlines bare = refl
 lines_outlines (plant r b a) =
     ap₂ {C = List Outline} (λ (n : ℕ) (l : List Outline). record { size = suc n; shaped = r.shaped } ∷ l) (sym (count_relabel shaped_row b))
-    (map_append outline_line (lines b) (lines a) ∙ ap₂ (λ (x y : List Outline). x ++ y) (lines_outlines b) (lines_outlines a))
+    (map-append outline_line (lines b) (lines a) ∙ ap₂ (λ (x y : List Outline). x ++ y) (lines_outlines b) (lines_outlines a))
 
 -- ── A table that shows the lines of a walk ──
 

@@ -1,6 +1,6 @@
 -- The main promise: what an accepted conversion holds, after every history of calls that led to its schema.
 use Rattle.std.specs.Prelude.{◌≡◌, ℕ, ◌+◌, ◌<◌, ◌≤◌, Bool, List, map, take, Some, Ok, Err, filter, Option, slice_index_or}
-use Rattle.std.specs.List.{AllByRecursion as All}
+use Rattle.std.specs.List.{AllByRecursion}
 use Rattle.tree.specs.Forest.{Forest, Tree, Lists, Sized, alone, listing}
 use Rattle.tree.specs.Forest.Forest.{bare, plant}
 use Rattle.schema.specs.declared.refusal.Refusal.TheVariants as no
@@ -98,7 +98,7 @@ pub record Fulfilled (h : List Event) (c : Conversion) (n : ℕ) : Type 0 where
   -- level's element is optional, no items where it is repeated; and each repetition level is opened by one row alone, that of its repeated element
   pub levels : (q : ℕ) (k : LeafNumbers) → q < n → (result_at c.rows q).leaf ≡ Some k → LevelsRead (counted c) (read_table (in_use c n)) q k.element
   -- R ≤ D ≤ 64 in every row
-  pub bounded : All Low (in_use c n)
+  pub bounded : AllByRecursion Low (in_use c n)
   -- any other accepted conversion of a schema that spells the same, with the same leaves chosen, is alike, whatever its hints, memory and tables
   pub alike : (g : List Event) (d : Conversion) (m : ℕ) → Converts d → Reached g (whole d.schema) d.elements d.names → d.answer ≡ Ok m
       → (spelled g).elements ≡ (spelled h).elements → SameChoice (leaves c) c.chosen d.chosen → Alike c d n m

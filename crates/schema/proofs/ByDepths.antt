@@ -1,6 +1,6 @@
 -- Rows that keep the steps are the rows of a tree by depth, and the other way round; and their sizes are the tree's.
 use Rattle.std.proofs.Common.{◌≡◌, ℕ, zero, suc, ◌+◌, ◌-◌, ◌<◌, ◌≤◌, Bool, true, false, cond, ◌&&◌, eqb, ltb, leb, ◌⊎◌, List, [], ◌∷◌, ◌++◌, length, get_or, is_some, sym, refl, ap, ◌∙◌, subst, ap₂, inl, inr, append_assoc, append-nil, arith}
-use Rattle.std.specs.List.{AllByRecursion as All}
+use Rattle.std.specs.List.{AllByRecursion}
 use Rattle.std.proofs.lemmas.Bool.{cond-true, cond-false, lt-ltb, le-ltb, le-leb, leb-true, eqb-true, and_from, and_parts, cases_lt}
 use Rattle.std.proofs.lemmas.List.{length-append, get_or_append_left, get_or-append_right}
 use Rattle.std.proofs.ByRecursion.{All-get_or}
@@ -90,7 +90,7 @@ rest_falls bytes before (e ∷ es) k =
     deepest_most : (e : Element) → deepest_after e ≤ e.depth + 1
     deepest_most e = elim (is_group e.kind) as (λ b. e.depth + cond b 1 0 ≤ e.depth + 1) [ true ↦ omega arith | false ↦ omega arith ]
 
-rest_all : (bytes : ℕ) (before : Element) (es : List Element) → rest_kept bytes before es ≡ true → All (λ e. row_kept bytes e ≡ true) es
+rest_all : (bytes : ℕ) (before : Element) (es : List Element) → rest_kept bytes before es ≡ true → AllByRecursion (λ e. row_kept bytes e ≡ true) es
 rest_all bytes before [] k = tt
 rest_all bytes before (e ∷ es) k =
     let p = and_parts (next_kept bytes before e) (rest_kept bytes e es) k in
@@ -100,12 +100,12 @@ row_deep : (bytes : ℕ) (e : Element) → row_kept bytes e ≡ true → 0 < e.d
 row_deep bytes e k = omega (arith, leb-true 1 e.depth (and_parts (leb 1 e.depth) (leb e.depth 64 && (is_some e.repetition && (kind_kept e.kind && named_inside bytes e))) k).0)
 
 -- all rows but the root are deeper than 0
-all_taken : (bytes : ℕ) (f : Forest Element) (m : ℕ) → Falling m f → All (λ e. row_kept bytes e ≡ true) (listing f) → left 0 f ≡ bare
+all_taken : (bytes : ℕ) (f : Forest Element) (m : ℕ) → Falling m f → AllByRecursion (λ e. row_kept bytes e ≡ true) (listing f) → left 0 f ≡ bare
 all_taken bytes bare m x a = refl
 all_taken bytes (plant e below after) m x a =
     cond-true (ltb 0 e.depth) _ _ (lt-ltb 0 e.depth (row_deep bytes e a.0)) ∙ all_taken bytes after e.depth x.3 (all_right (listing below) (listing after) a.1)
   where
-    all_right : (xs ys : List Element) → All (λ e. row_kept bytes e ≡ true) (xs ++ ys) → All (λ e. row_kept bytes e ≡ true) ys
+    all_right : (xs ys : List Element) → AllByRecursion (λ e. row_kept bytes e ≡ true) (xs ++ ys) → AllByRecursion (λ e. row_kept bytes e ≡ true) ys
     all_right [] ys a = a
     all_right (x ∷ xs) ys a = all_right xs ys a.1
 
@@ -119,7 +119,7 @@ tree_from_steps bytes (e ∷ es) k =
     let x = rest_falls bytes e es p.1 in
     let a = rest_all bytes e es p.1 in
     let y : ByDepth 0 (plant e (taken e.depth f) bare) = (top, rest_leaf e f x, subst (λ n. ByDepth (n + 1) (taken e.depth f)) top (taken_deep e.depth f (deepest_after e) (most e) x), tt) in
-    let gone : left e.depth f ≡ bare = ap (λ n. left n f) top ∙ all_taken bytes f (deepest_after e) x (subst (All (λ e. row_kept bytes e ≡ true)) (sym (falls_lists es)) a) in
+    let gone : left e.depth f ≡ bare = ap (λ n. left n f) top ∙ all_taken bytes f (deepest_after e) x (subst (AllByRecursion (λ e. row_kept bytes e ≡ true)) (sym (falls_lists es)) a) in
     let same : listing (taken e.depth f) ≡ es =
     sym (append-nil (listing (taken e.depth f))) ∙ ap (λ g. listing (taken e.depth f) ++ listing g) (sym gone) ∙ taken_left e.depth f ∙ falls_lists es in (
       record { root = e; under = taken e.depth f },
@@ -128,7 +128,7 @@ tree_from_steps bytes (e ∷ es) k =
         depths = y;
         few = omega (arith, leb-true (length es) 4095 q.0);
         root = q.1;
-        others = subst (All (λ e. row_kept bytes e ≡ true)) (sym same) a;
+        others = subst (AllByRecursion (λ e. row_kept bytes e ≡ true)) (sym same) a;
       },
     )
   where
@@ -146,7 +146,7 @@ which false = inr refl
 
 module _ (bytes : ℕ) where
   abbrev Rows : List Element → Type 0
-  Rows xs = All (λ e. row_kept bytes e ≡ true) xs
+  Rows xs = AllByRecursion (λ e. row_kept bytes e ≡ true) xs
 
   rows_left : (xs ys : List Element) → Rows (xs ++ ys) → Rows xs × Rows ys
   rows_left [] ys a = (tt, a)

@@ -1,6 +1,6 @@
 -- What a history has come to holds what its accepted calls spelled.
 use Rattle.std.proofs.Common.{◌≡◌, ℕ, ◌+◌, ◌<◌, ◌≤◌, Bool, true, false, cond, not, ◌&&◌, ◌||◌, eqb, ltb, leb, List, [], ◌∷◌, ◌++◌, map, length, take, drop, set, ℤ, is_some, is_ok, Some, None, Ok, Err, Decides, Option, Result, sym, refl, ap, ◌∙◌, subst, arith}
-use Rattle.std.specs.List.{AllByRecursion as All}
+use Rattle.std.specs.List.{AllByRecursion}
 use Rattle.std.proofs.lemmas.List.{drop-take, take-take, take-append-le, take_at, drop_at, length-take-le, length-take, length-set, take_more_set, map_push, length-append, length-drop}
 use Rattle.std.proofs.lemmas.Bool.{and_parts, and_from, or_from, leb-true, leb-false, ltb-false, le-leb, le-ltb, eq-eqb, ne_eqb, cond-true, cond-false}
 use Rattle.schema.specs.declared.basic.Annotation.{Annotation}
@@ -58,14 +58,14 @@ module _ (u v : ℕ) (h : u ≤ v) where
   row_more : (e : Element) → row_kept u e ≡ true → row_kept v e ≡ true
   row_more e k = and4 (leb 1 e.depth) (leb e.depth 64) (is_some e.repetition) (kind_kept e.kind) (named_inside u e) (named_inside v e) (inside_more e) k
 
-rest_inside : (u : ℕ) (before : Element) (es : List Element) → rest_kept u before es ≡ true → All (Inside u) es
+rest_inside : (u : ℕ) (before : Element) (es : List Element) → rest_kept u before es ≡ true → AllByRecursion (Inside u) es
 rest_inside u before [] k = tt
 rest_inside u before (e ∷ es) k =
     let p = and_parts (next_kept u before e) (rest_kept u e es) k in
     let q = and_parts (may_follow before e) (row_kept u e) p.0 in
     (leb-true (end_of e.name) u (last4 (leb 1 e.depth) (leb e.depth 64) (is_some e.repetition) (kind_kept e.kind) (named_inside u e) q.1), rest_inside u e es p.1)
 
-rows_inside : (u : ℕ) (es : List Element) → rows_kept u es ≡ true → All (Inside u) es
+rows_inside : (u : ℕ) (es : List Element) → rows_kept u es ≡ true → AllByRecursion (Inside u) es
 rows_inside u [] k = tt
 rows_inside u (e ∷ es) k =
     let p = and_parts (leb (length es) 4095 && root_kept u e) (rest_kept u e es) k in
@@ -138,7 +138,7 @@ kept_part : (ns ns' : List ℕ) (u p l : ℕ) → p + l ≤ u → take u ns' ≡
 kept_part ns ns' u p l h e =
     sym (drop-take p l ns') ∙ ap (drop p) (sym (take-take (p + l) u ns' h) ∙ ap (take (p + l)) e ∙ take-take (p + l) u ns h) ∙ drop-take p l ns
 
-kept_shown : (ns ns' : List ℕ) (u : ℕ) (els : List Element) → take u ns' ≡ take u ns → All (Inside u) els → map (shown_as ns') els ≡ map (shown_as ns) els
+kept_shown : (ns ns' : List ℕ) (u : ℕ) (els : List Element) → take u ns' ≡ take u ns → AllByRecursion (Inside u) els → map (shown_as ns') els ≡ map (shown_as ns) els
 kept_shown ns ns' u [] e h = refl
 kept_shown ns ns' u (x ∷ els) e h =
     let p = kept_part ns ns' u x.name.start x.name.length h.0 e in
@@ -177,7 +177,7 @@ module _ {q : Option Repetition} {i : Option ℤ} {kind : Kind} {name : List ℕ
   unfolding new_row
   spelt_fits = omega (arith, ap length s.elements, length-set els d.count new_row, s.more, s.count)
 
-  spelt_shows : (ws : List Spelled) (n : ℕ) → n ≡ d.groups → shown d.count els ns ≡ ws → All (Inside d.bytes) (take d.count els)
+  spelt_shows : (ws : List Spelled) (n : ℕ) → n ≡ d.groups → shown d.count els ns ≡ ws → AllByRecursion (Inside d.bytes) (take d.count els)
       → shown d'.count els' ns' ≡ ws ++ record { name = name; depth = n; repetition = q; fieldId = i; kind = kind } ∷ []
   unfolding new_row
   spelt_shows ws n e shows inside =

@@ -1,6 +1,6 @@
 -- Which rows are a schema, by their depths alone: as steps from row to row, and as a tree.
 use Rattle.std.specs.Prelude.{◌≡◌, ℕ, ◌+◌, ◌≤◌, Bool, true, false, cond, ◌&&◌, List, [], ◌∷◌, map, length, is_some, Some, None, Option, ◌==◌, nat_le, nat_lt}
-use Rattle.std.specs.List.{AllByRecursion as All}
+use Rattle.std.specs.List.{AllByRecursion}
 use Rattle.tree.specs.Forest.{Forest, Tree, alone, listing, Lists}
 use Rattle.tree.specs.Forest.Forest.{bare, plant}
 use Rattle.schema.specs.declared.basic.Annotation.{Annotation}
@@ -76,7 +76,7 @@ pub record SchemaTree (bytes : ℕ) (t : Tree Element) (rows : List Element) : T
   pub depths : ByDepth 0 (alone t)
   pub few : length rows ≤ 4096
   pub root : root_kept bytes t.root ≡ true
-  pub others : All (λ e. row_kept bytes e ≡ true) (listing t.under)
+  pub others : AllByRecursion (λ e. row_kept bytes e ≡ true) (listing t.under)
 
 abbrev pub IsSchema : ℕ → List Element → Type 0
 IsSchema bytes rows = (t : Tree Element) × SchemaTree bytes t rows

@@ -1,9 +1,9 @@
 -- Levels are at most 64, as depths are.
-use Rattle.std.proofs.Common.{◌≡◌, ℕ, zero, suc, ◌+◌, ◌≤◌, max, Bool, true, false, ◌&&◌, eqb, leb, List, [], ◌∷◌, ◌++◌, map, is_some, Some, None, Option, sym, refl, ap, ◌∙◌, subst, ap₂, arith}
-use Rattle.std.specs.List.{AllByRecursion as All}
+use Rattle.std.proofs.Common.{◌≡◌, ℕ, suc, ◌+◌, ◌≤◌, max, true, ◌&&◌, eqb, leb, List, [], ◌∷◌, ◌++◌, map, is_some, Some, None, Option, sym, refl, subst, ap₂, arith}
+use Rattle.std.specs.List.{AllByRecursion}
 use Rattle.std.proofs.lemmas.Bool.{leb-true, and_parts}
 use Rattle.walk.proofs.Lists.{listing_relabel}
-use Rattle.walk.proofs.Order.{Lows, few, ordered_rows}
+use Rattle.walk.proofs.Order.{Lows, ordered_rows}
 use Rattle.walk.specs.Forests.{height, relabel}
 use Rattle.walk.specs.Labels.{shown_tree}
 use Rattle.walk.specs.Laws.{LevelsBounded, Low}
@@ -16,11 +16,11 @@ use Rattle.schema.specs.declared.element.Element.{Element}
 use Rattle.tree.specs.Forest.{Forest, listing}
 use Rattle.tree.specs.Forest.Forest.{bare, plant}
 
-all_front : {A : Type 0} (P : A → Type 0) (xs ys : List A) → All P (xs ++ ys) → All P xs
+all_front : {A : Type 0} (P : A → Type 0) (xs ys : List A) → AllByRecursion P (xs ++ ys) → AllByRecursion P xs
 all_front P [] ys a = tt
 all_front P (x ∷ xs) ys a = (a.0, all_front P xs ys a.1)
 
-all_back : {A : Type 0} (P : A → Type 0) (xs ys : List A) → All P (xs ++ ys) → All P ys
+all_back : {A : Type 0} (P : A → Type 0) (xs ys : List A) → AllByRecursion P (xs ++ ys) → AllByRecursion P ys
 all_back P [] ys a = a
 all_back P (x ∷ xs) ys a = all_back P xs ys a.1
 
@@ -37,7 +37,7 @@ deep bytes e h =
     leb-true e.depth 64 b.0
 
 -- elements at a depth have at most so many below one another as depths are left
-high : (bytes d : ℕ) (f : Forest Element) → ByDepth d f → All (λ e. row_kept bytes e ≡ true) (listing f) → d ≤ 65 → d + height f ≤ 65
+high : (bytes d : ℕ) (f : Forest Element) → ByDepth d f → AllByRecursion (λ e. row_kept bytes e ≡ true) (listing f) → d ≤ 65 → d + height f ≤ 65
 high bytes d bare h a k = omega arith
 high bytes d (plant e below after) h a k =
     let rest = a.1 in
@@ -47,11 +47,11 @@ high bytes d (plant e below after) h a k =
     let in_after = high bytes d after h.3 (all_back P (listing below) (listing after) rest) k in
     omega (arith, h.0)
 
-each_row : (most : ℕ) (rs : List Made) → All (Lows most) rs → All (Low most) (map made_row rs)
+each_row : (most : ℕ) (rs : List Made) → AllByRecursion (Lows most) rs → AllByRecursion (Low most) (map made_row rs)
 each_row most [] a = tt
 each_row most (r ∷ rs) a = (a.0, each_row most rs a.1)
 
-weaker : (a b : ℕ) → a ≤ b → (rs : List Made) → All (Lows a) rs → All (Lows b) rs
+weaker : (a b : ℕ) → a ≤ b → (rs : List Made) → AllByRecursion (Lows a) rs → AllByRecursion (Lows b) rs
 weaker a b h [] all = tt
 weaker a b h (r ∷ rs) all = ((all.0.0, omega (arith, all.0.1)), weaker a b h rs all.1)
 
@@ -70,6 +70,6 @@ levels_bounded chosen names bytes t table s =
     let u = shown_tree names t in
     let few : height t.under ≤ 64 = omega (arith, high bytes 1 t.under s.depths.2 s.others (omega arith)) in
     let same = height_relabel (shown_as names) t.under in
-    subst (λ (rs : List Row). All (Low 64) rs) (sym (listing_relabel made_row (rows chosen u)))
+    subst (λ (rs : List Row). AllByRecursion (Low 64) rs) (sym (listing_relabel made_row (rows chosen u)))
     (each_row 64 (listing (rows chosen u))
     (weaker (height u.under) 64 (omega arith) (listing (rows chosen u)) (ordered_rows chosen u (no_repetition bytes t.root s.root))))

@@ -1,5 +1,5 @@
 -- Only the choice of the schema's own leaves plays a part.
-use Rattle.std.proofs.Common.{◌≡◌, ℕ, zero, suc, ◌+◌, ◌<◌, ◌≤◌, Bool, true, false, cond, ◌&&◌, ◌||◌, List, [], ◌∷◌, ◌++◌, map, sym, refl, ap, ◌∙◌, subst, ap₂, arith}
+use Rattle.std.proofs.Common.{◌≡◌, ℕ, ◌+◌, ◌<◌, ◌≤◌, Bool, true, false, cond, ◌&&◌, ◌||◌, List, [], ◌++◌, refl, ap, ◌∙◌, ap₂, arith}
 use Rattle.walk.specs.Faults.{Typing, below_group, leaf_hint, name_checks, own_checks, refusals, type_checks, wrap_checks}
 use Rattle.walk.specs.Forests.{beside, over, relabel, trees}
 use Rattle.walk.specs.Handing.{compares_names, field_hint, hands_on, hinting, wrapped}

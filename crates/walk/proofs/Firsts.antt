@@ -1,6 +1,5 @@
 -- The first of what the roles and checks refuse is the first fault.
-use Rattle.std.proofs.Common.{◌≡◌, ℕ, zero, suc, ◌+◌, ◌≤◌, Bool, true, false, cond, not, ◌&&◌, ◌||◌, eqb, List, [], ◌∷◌, ◌++◌, map, Some, None, Option, sym, refl, ap, ◌∙◌, subst, ap₂, append_assoc, append-nil, arith}
-use Rattle.std.specs.List.{flat_map, AllByRecursion as All}
+use Rattle.std.proofs.Common.{◌≡◌, ℕ, Bool, true, false, cond, not, ◌&&◌, ◌||◌, eqb, List, [], ◌∷◌, ◌++◌, Some, None, Option, sym, refl, ap, ◌∙◌, subst, ap₂, arith}
 use Rattle.std.specs.Str.{bytes_eq}
 use Rattle.arrow.specs.declared.types.ArrowType.{ArrowType}
 use Rattle.walk.specs.Faults.{Typing, checks, group_checks, leaf_hint, map_checks, name_checks, own_checks, struct_checks, type_checks, unless, wrap_checks}

@@ -1,6 +1,6 @@
 -- The ways of the rows follow the paths of the schema: one equation between lists, by induction over the schema.
-use Rattle.std.proofs.Common.{◌≡◌, ℕ, zero, suc, ◌+◌, ◌<◌, ◌≤◌, Bool, true, false, cond, not, ◌&&◌, ◌||◌, List, [], ◌∷◌, ◌++◌, map, ℤ, filter, Option, sym, refl, ap, ◌∙◌, subst, ap₂, append_assoc, append-nil, arith}
-use mathlib.Core.List.{map_append}
+use Rattle.std.proofs.Common.{◌≡◌, ℕ, suc, Bool, true, false, cond, not, ◌&&◌, ◌||◌, List, [], ◌∷◌, ◌++◌, map, ℤ, filter, Option, sym, refl, ap, ◌∙◌, ap₂, append_assoc, append-nil, arith}
+use mathlib.Core.List.{map-append}
 use Rattle.std.specs.List.{flat_map}
 use Rattle.std.proofs.lemmas.List.Elements.{filter-append}
 use Rattle.walk.proofs.Lists.{kept_by_map, kept_by_none, map_square, map_twice, ways_beside}
@@ -10,9 +10,8 @@ use Rattle.walk.specs.Labels.{is_leaf}
 use Rattle.walk.specs.Levels.{Means, Opens, clear, kept_leaf, leaf_row_at, leaf_spot, less, opens, path, reads, row_leaf}
 use Rattle.walk.specs.Levels.Meaning.{absent, no_items}
 use Rattle.walk.specs.Reading.{Holder, Part, Read}
-use Rattle.walk.specs.Shape.{Items, Made, Row, both_sides, element_rows, group_rows, has_own, items_of, leaf_part, passes_null, raised, rows, shape, wrap}
+use Rattle.walk.specs.Shape.{Items, Made, Row, both_sides, element_rows, group_rows, has_own, items_of, leaf_part, passes_null, raised, shape, wrap}
 use Rattle.walk.specs.Shape.Items.{of_list}
-use Rattle.walk.specs.Worked.{id}
 use Rattle.walk.specs.Yields.{both_yield, half_by, half_taken, some_yield, yields_by}
 use Rattle.walk.specs.declared.levels.Levels.{Levels}
 use Rattle.walk.specs.declared.role.Role.{Role}
@@ -303,10 +302,10 @@ module _ (chosen : ℕ → Bool) where
       (shape chosen (raised v r) (passes_null (has_own x.role) r) below) in
       let rest = shape chosen v p after in
       ap (map sum_of) (ways_beside made_leaf rows rest)
-      ∙ map_append sum_of (ways made_leaf rows) (ways made_leaf rest)
+      ∙ map-append sum_of (ways made_leaf rows) (ways made_leaf rest)
       ∙ ap₂ (λ (a b : List Sum). a ++ b)
       (follow_node x.of.number x.of.leaf_number (aside x) below v p r k x.role o.0
       (follow below (raised v r) (passes_null (has_own x.role) r) o.1))
       (follow after v p o.2)
-      ∙ sym (map_append (fact v p) (filter (kept_leaf chosen) (node_ways k (place x below))) (kept after))
+      ∙ sym (map-append (fact v p) (filter (kept_leaf chosen) (node_ways k (place x below))) (kept after))
       ∙ ap (map (fact v p)) (sym (filter-append (kept_leaf chosen) (node_ways k (place x below)) (ways leaf_spot (spots after))))

@@ -1,6 +1,6 @@
 -- Hints reach elements and fields are told as the laws say.
-use Rattle.std.proofs.Common.{◌≡◌, ℕ, zero, suc, ◌+◌, Bool, true, false, cond, not, ◌&&◌, ◌||◌, List, [], ◌∷◌, ◌++◌, map, Some, None, sym, refl, ap, ◌∙◌, subst, ap₂, arith}
-use Rattle.std.specs.List.{slice_get, AllByRecursion as All}
+use Rattle.std.proofs.Common.{◌≡◌, ℕ, zero, suc, Bool, true, false, not, ◌&&◌, List, [], ◌∷◌, ◌++◌, Some, None, sym, refl, ap, ◌∙◌, subst, ap₂, arith}
+use Rattle.std.specs.List.{slice_get, AllByRecursion}
 use Rattle.arrow.specs.declared.row.Metadata.{Metadata}
 use Rattle.walk.specs.Faults.{Typing}
 use Rattle.walk.specs.Fields.{Child, FieldOf, FieldsBelow, HandsOn, first_of, general_field, is_key, nth_hint, outer_field}
@@ -9,14 +9,12 @@ use Rattle.walk.specs.Handing.{compares_names, field_hint, hands_on, hinting, wi
 use Rattle.walk.specs.Hints.{Hint, inside, nothing, others, sole}
 use Rattle.walk.specs.Labels.{Numbered, numbered}
 use Rattle.walk.specs.Laws.{FieldsTold, HintsReach}
-use Rattle.walk.specs.Reading.{Holder, Part, Read, child_part, held_by, list_child, next_part, nobody, reading, role_of}
+use Rattle.walk.specs.Reading.{Holder, Part, Read, child_part, held_by, next_part, nobody, reading, role_of}
 use Rattle.walk.specs.Reading.Part.{as_element, as_entries, as_field, as_key, as_middle, as_root}
 use Rattle.walk.specs.Refusing.{by_itself}
 use Rattle.walk.specs.Shape.{Row}
 use Rattle.walk.specs.Walk.{inner_metadata, metadata_of}
-use Rattle.walk.specs.Worked.{id}
 use Rattle.walk.specs.declared.role.Role.{Role}
-use Rattle.schema.specs.declared.element.Kind.TheVariants.{Group as group}
 use Rattle.tree.specs.Forest.{Forest, alone, listing}
 use Rattle.tree.specs.Forest.Forest.{bare, plant}
 use Rattle.arrow.specs.declared.row.Metadata.TheVariants as m
@@ -204,13 +202,13 @@ fields_at n u h t g x below typing =
 
 -- ── All elements ──
 
-all_append : {A : Type 0} (P : A → Type 0) (xs ys : List A) → All P xs → All P ys → All P (xs ++ ys)
+all_append : {A : Type 0} (P : A → Type 0) (xs ys : List A) → AllByRecursion P xs → AllByRecursion P ys → AllByRecursion P (xs ++ ys)
 all_append P [] ys p q = q
 all_append P (x ∷ xs) ys p q = (p.0, all_append P xs ys p.1 q)
 
 module _ (P : Spot Read → Type 0)
     (each : (n : Bool) (u h : Forest Hint) (t : Part) (g : Holder) (x : Numbered) (below : Forest Numbered) → P (here n u h t g x below)) where
-  everywhere : (n : Bool) (u h : Forest Hint) (t : Part) (g : Holder) (f : Forest Numbered) → All P (listing (spots (hinting n u h (reading t g f))))
+  everywhere : (n : Bool) (u h : Forest Hint) (t : Part) (g : Holder) (f : Forest Numbered) → AllByRecursion P (listing (spots (hinting n u h (reading t g f))))
   unfolding hinting reading
   everywhere n u h t g bare = tt
   everywhere n u h t g (plant x below after) =

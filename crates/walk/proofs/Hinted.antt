@@ -1,8 +1,8 @@
 -- Hints change no row, Arrow types and metadata aside.
-use Rattle.std.proofs.Common.{◌≡◌, ℕ, zero, suc, ◌+◌, Bool, true, false, cond, not, ◌&&◌, ◌||◌, List, [], ◌∷◌, ◌++◌, map, Ok, sym, refl, ap, ◌∙◌, subst, ap₂, arith}
+use Rattle.std.proofs.Common.{◌≡◌, ℕ, Bool, true, false, cond, ◌&&◌, ◌||◌, List, [], ◌∷◌, map, Ok, sym, refl, ap, ◌∙◌, subst, ap₂, arith}
 use Rattle.walk.proofs.Lists.{count_relabel, listing_relabel}
 use Rattle.walk.proofs.Main.{leveled}
-use Rattle.walk.specs.Forests.{beside, over, relabel, trees}
+use Rattle.walk.specs.Forests.{beside, over, relabel}
 use Rattle.walk.specs.Handing.{compares_names, field_hint, hands_on, hinting, with_hint, wrapped}
 use Rattle.walk.specs.Hints.{Hint, others, sole}
 use Rattle.walk.specs.Laws.{HasShape, HintsKeepShape, Leveled, WalkLeveled, shaped_row}
@@ -10,7 +10,6 @@ use Rattle.walk.specs.Reading.{Read}
 use Rattle.walk.specs.Shape.{Items, Made, Row, Shaped, base, both_sides, element_rows, group_rows, has_own, items_of, leaf_part, passes_null, raised, read, rows, shape, shaped_of, wrap}
 use Rattle.walk.specs.Shape.Items.{of_list, of_map}
 use Rattle.walk.specs.Walk.{all_refusals, full_of, full_rows, handed, unless_refused}
-use Rattle.walk.specs.Worked.{flat}
 use Rattle.walk.specs.Yields.{both_yield, every_yield, some_yield, yields_by}
 use Rattle.walk.specs.declared.levels.Levels.{Levels}
 use Rattle.walk.specs.declared.role.Role.{Role}

@@ -1,6 +1,6 @@
 -- The leaves of a schema are those of a listing.
-use Rattle.std.proofs.Common.{◌≡◌, ℕ, zero, suc, ◌+◌, Bool, true, false, cond, not, List, [], ◌∷◌, ◌++◌, map, length, get_or, drop, filter, sym, refl, ap, ◌∙◌, subst, ap₂, append_assoc, append-nil, add-one, arith, length-append}
-use mathlib.Core.List.{map_append}
+use Rattle.std.proofs.Common.{◌≡◌, ℕ, suc, ◌+◌, Bool, true, false, cond, not, List, [], ◌∷◌, ◌++◌, map, length, drop, filter, sym, refl, ap, ◌∙◌, ap₂, append_assoc, append-nil, add-one, arith, length-append}
+use mathlib.Core.List.{map-append}
 use Rattle.std.specs.List.{range_with_len}
 use Rattle.std.proofs.lemmas.List.Elements.{filter-append}
 use Rattle.columns.specs.Levels.{is_leaf as leaf_row_at_place}
@@ -28,7 +28,7 @@ module _ {A : Type 0} (is : A → Bool) where
   ends_listing : (f : Forest A) → Ends is f → map (λ (w : Way A). w.end) (ways is f) ≡ filter is (listing f)
   ends_listing bare t = refl
   ends_listing (plant r below after) t =
-      map_append (λ (w : Way A). w.end) (cond (is r) (straight r ∷ []) (map (under r) (ways is below))) (ways is after)
+      map-append (λ (w : Way A). w.end) (cond (is r) (straight r ∷ []) (map (under r) (ways is below))) (ways is after)
       ∙ go (is r) t.0 (ends_listing below t.1) (ends_listing after t.2)
       ∙ ap (λ (l : List A). cond (is r) (r ∷ l) l) (sym (filter-append is (listing below) (listing after)))
     where
@@ -86,7 +86,7 @@ module _ (names : List ℕ) (elements : List Element) where
       let first = by_places below (q + 1) k (listing after ++ rest) on in
       let second = by_places after m k' rest (ap (λ (n : ℕ). drop n elements) there ∙ past) in
       let tail : map number (filter leaf_node (v ++ u)) ≡ filter test (range_with_len (q + 1) (length (listing below ++ listing after))) =
-      ap (map number) (filter-append leaf_node v u) ∙ map_append number (filter leaf_node v) (filter leaf_node u)
+      ap (map number) (filter-append leaf_node v u) ∙ map-append number (filter leaf_node v) (filter leaf_node u)
       ∙ ap₂ (λ (s t : List ℕ). s ++ t) first (second ∙ ap (λ (n : ℕ). filter test (range_with_len n (count after))) (let z : m ≡ q + 1 + count below = omega arith in z))
       ∙ sym (filter-append test (range_with_len (q + 1) (count below)) (range_with_len (q + 1 + count below) (count after)))
       ∙ ap (filter test) (counting_append (q + 1) (count below) (count after) ∙ ap (range_with_len (q + 1)) (sym (length-append (listing below) (listing after)))) in

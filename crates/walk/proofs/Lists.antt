@@ -1,6 +1,6 @@
 -- Lists and forests, whatever they hold.
-use Rattle.std.proofs.Common.{◌≡◌, ℕ, zero, suc, ◌+◌, Bool, true, false, cond, List, [], ◌∷◌, ◌++◌, map, length, filter, sym, refl, ap, ◌∙◌, subst, ap₂, append_assoc, append-nil, length-append}
-use mathlib.Core.List.{map_append}
+use Rattle.std.proofs.Common.{◌≡◌, suc, ◌+◌, Bool, true, false, cond, List, [], ◌∷◌, ◌++◌, map, length, filter, sym, refl, ap, ◌∙◌, ap₂, append_assoc, length-append}
+use mathlib.Core.List.{map-append}
 use lib.ListN.{length-map}
 use Rattle.std.specs.List.{flat_map}
 use Rattle.walk.specs.Forests.{Way, beside, relabel, straight, under, ways}
@@ -50,7 +50,7 @@ pub listing_relabel : {A B : Type 0} (f : A → B) (g : Forest A) → listing (r
 listing_relabel f bare = refl
 listing_relabel {A} {B} f (plant a below after) =
     ap {B = List B} (λ (l : List B). f a ∷ l)
-    (ap₂ (λ (x y : List B). x ++ y) (listing_relabel f below) (listing_relabel f after) ∙ sym (map_append f (listing below) (listing after)))
+    (ap₂ (λ (x y : List B). x ++ y) (listing_relabel f below) (listing_relabel f after) ∙ sym (map-append f (listing below) (listing after)))
 
 pub count_plant : {A : Type 0} (a : A) (below after : Forest A) → count (plant a below after) ≡ suc (count below + count after)
 count_plant a below after = ap suc (length-append (listing below) (listing after))

@@ -1,13 +1,13 @@
 -- The leaf rows agree with the leaves that are kept-leaf.
-use Rattle.std.proofs.Common.{◌≡◌, ℕ, zero, suc, ◌+◌, ◌*◌, ◌<◌, ◌≤◌, Bool, true, false, cond, eqb, List, [], ◌∷◌, ◌++◌, map, filter, sym, refl, ap, ◌∙◌, subst, ap₂, arith}
-use mathlib.Core.List.{map_append}
+use Rattle.std.proofs.Common.{◌≡◌, ℕ, ◌*◌, ◌≤◌, Bool, false, List, [], ◌∷◌, map, filter, sym, refl, ap, ◌∙◌, subst, arith}
+use mathlib.Core.List.{map-append}
 use Rattle.std.proofs.lemmas.Bool.{eq-eqb}
 use Rattle.std.specs.List.{flat_map}
 use Rattle.walk.proofs.Follow.{Sum, fact, follow, levels_from, made_leaf, openings_from, readings_from, sum_of}
 use Rattle.walk.proofs.Lists.{count_relabel, joined_map, kept_by_map, listing_relabel, map_twice, paired_map}
 use Rattle.walk.proofs.Numbers.{ways_relabel}
 use Rattle.walk.proofs.Once.{once}
-use Rattle.walk.proofs.Order.{few, few_rows}
+use Rattle.walk.proofs.Order.{few_rows}
 use Rattle.walk.proofs.Owed.{owing_none}
 use Rattle.walk.proofs.Paths.{def_from, found, means, of_level, of_opening, opened, opening, rep_from}
 use Rattle.walk.proofs.Tidy.{leaf_listing, tidy_rows}
@@ -57,7 +57,7 @@ opens_once rs r d e =
 
 module _ (w : Way Made) (q : Way (Spot Read)) (e : sum_of w ≡ fact base false q) where
   joined_along : {Z : Type 0} (g : Row → List Z) → flat_map g (along (on_way made_row w)) ≡ flat_map (λ (r : Made). g r.row) (along w)
-  joined_along g = ap (flat_map g) (sym (map_append made_row w.above (w.end ∷ []))) ∙ joined_map g made_row (along w)
+  joined_along g = ap (flat_map g) (sym (map-append made_row w.above (w.end ∷ []))) ∙ joined_map g made_row (along w)
 
   pub reads_each : ReadsEach (on_way made_row w) q
   reads_each d h =

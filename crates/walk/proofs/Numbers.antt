@@ -1,6 +1,6 @@
 -- Numbers count, and reading leaves every element and path as it is.
-use Rattle.std.proofs.Common.{◌≡◌, ℕ, zero, suc, ◌+◌, ◌≤◌, max, Bool, true, false, cond, List, [], ◌∷◌, ◌++◌, map, length, sym, refl, ap, ◌∙◌, subst, ap₂, append_assoc, append-nil, arith, length-append}
-use mathlib.Core.List.{map_append}
+use Rattle.std.proofs.Common.{◌≡◌, ℕ, zero, suc, ◌+◌, max, Bool, true, false, cond, List, [], ◌∷◌, ◌++◌, map, sym, refl, ap, ◌∙◌, ap₂, arith, length-append}
+use mathlib.Core.List.{map-append}
 use Rattle.std.specs.List.{range_with_len}
 use Rattle.walk.proofs.Lists.{count_relabel, map_square, map_twice}
 use Rattle.walk.specs.Forests.{Spot, Way, height, on_way, relabel, spots, straight, under, ways}
@@ -18,7 +18,7 @@ pub ways_relabel : {A B : Type 0} (is : B → Bool) (f : A → B) (g : Forest A)
     → map (on_way f) (ways (λ a. is (f a)) g) ≡ ways is (relabel f g)
 ways_relabel is f bare = refl
 ways_relabel {A} {B} is f (plant a below after) =
-    map_append (on_way f) (cond (is (f a)) (straight a ∷ []) (map (under a) (ways (λ a. is (f a)) below))) (ways (λ a. is (f a)) after)
+    map-append (on_way f) (cond (is (f a)) (straight a ∷ []) (map (under a) (ways (λ a. is (f a)) below))) (ways (λ a. is (f a)) after)
     ∙ ap₂ (λ (x y : List (Way B)). x ++ y) (go (is (f a)) (ways_relabel is f below)) (ways_relabel is f after)
   where
     go : (b : Bool) → map (on_way f) (ways (λ a. is (f a)) below) ≡ ways is (relabel f below)
@@ -82,7 +82,7 @@ numbers_count n k bare = refl
 numbers_count n k (plant e below after) =
     let k' = k + cond (is_leaf e.kind) 1 (leaf_count below) in
     ap {B = List ℕ} (λ (l : List ℕ). n ∷ l)
-    (map_append (λ (x : Numbered). x.number) (listing (numbered (n + 1) k below)) (listing (numbered (n + 1 + count below) k' after))
+    (map-append (λ (x : Numbered). x.number) (listing (numbered (n + 1) k below)) (listing (numbered (n + 1 + count below) k' after))
     ∙ ap₂ (λ (a b : List ℕ). a ++ b) (numbers_count (n + 1) k below) (numbers_count (n + 1 + count below) k' after)
     ∙ counting_append (n + 1) (count below) (count after)
     ∙ ap (range_with_len (n + 1)) (sym (length-append (listing below) (listing after))))
@@ -95,7 +95,7 @@ leaves_count n k bare = refl
 leaves_count n k (plant e below after) =
     let k' = k + cond (is_leaf e.kind) 1 (leaf_count below) in
     let x : Numbered = numbered_as n k e in
-    map_append last_number (cond (is_leaf e.kind) (straight x ∷ []) (map (under x) (ways leaf_node (numbered (n + 1) k below))))
+    map-append last_number (cond (is_leaf e.kind) (straight x ∷ []) (map (under x) (ways leaf_node (numbered (n + 1) k below))))
     (ways leaf_node (numbered (n + 1 + count below) k' after))
     ∙ ap₂ (λ (a b : List ℕ). a ++ b) (go x (is_leaf e.kind) refl (leaves_count (n + 1) k below)) (leaves_count (n + 1 + count below) k' after)
     ∙ counting_append k (cond (is_leaf e.kind) 1 (leaf_count below)) (leaf_count after)

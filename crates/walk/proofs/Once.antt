@@ -1,10 +1,8 @@
 -- One alone among many lists that are joined.
-use Rattle.std.proofs.Common.{◌≡◌, ℕ, zero, suc, Bool, true, false, cond, ◌⊎◌, List, [], ◌∷◌, ◌++◌, map, filter, sym, refl, ap, ◌∙◌, subst, ap₂, inl, inr, arith}
+use Rattle.std.proofs.Common.{◌≡◌, ℕ, zero, suc, Bool, true, false, cond, List, [], ◌∷◌, ◌++◌, filter, sym, refl, ap, ◌∙◌, subst, inl, inr, arith}
 use Rattle.std.specs.List.{flat_map}
 use Rattle.std.proofs.lemmas.List.Elements.{filter-append}
-use Rattle.walk.specs.Hints.{others}
 use Rattle.walk.specs.Levels.{Among, At}
-use Rattle.tree.specs.Forest.{alone}
 
 differ : {A : Type 0} → false ≡ true → A
 differ e = absurd (let z : ◌≡◌ {A = ℕ} 0 1 = cc in omega arith)

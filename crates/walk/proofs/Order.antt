@@ -1,6 +1,6 @@
 -- No row's repetition level is above its definition level; and the elements that are read are the schema's.
-use Rattle.std.proofs.Common.{◌≡◌, ℕ, zero, suc, ◌+◌, ◌*◌, ◌<◌, ◌≤◌, max, Bool, true, false, cond, List, [], ◌∷◌, ◌++◌, map, length, None, sym, refl, ap, ◌∙◌, subst, ap₂, append_assoc, append-nil, arith}
-use Rattle.std.specs.List.{AllByRecursion as All}
+use Rattle.std.proofs.Common.{◌≡◌, ℕ, suc, ◌+◌, ◌*◌, ◌≤◌, Bool, true, false, List, [], ◌∷◌, ◌++◌, length, None, ap, arith}
+use Rattle.std.specs.List.{AllByRecursion}
 use Rattle.walk.proofs.Lists.{count_plant}
 use Rattle.walk.proofs.Numbers.{count_numbered, count_reading, height_numbered, height_reading}
 use Rattle.walk.specs.Forests.{beside, height, over}
@@ -27,19 +27,19 @@ abbrev pub Lows : ℕ → Made → Type 0
 Lows most r = Low most r.row
 
 module _ (most : ℕ) where
-  each_append : (xs ys : List Made) → All (Lows most) xs → All (Lows most) ys → All (Lows most) (xs ++ ys)
+  each_append : (xs ys : List Made) → AllByRecursion (Lows most) xs → AllByRecursion (Lows most) ys → AllByRecursion (Lows most) (xs ++ ys)
   each_append [] ys a b = b
   each_append (x ∷ xs) ys a b = (a.0, each_append xs ys a.1 b)
 
-  each_front : (xs ys : List Made) → All (Lows most) (xs ++ ys) → All (Lows most) xs
+  each_front : (xs ys : List Made) → AllByRecursion (Lows most) (xs ++ ys) → AllByRecursion (Lows most) xs
   each_front [] ys a = tt
   each_front (x ∷ xs) ys a = (a.0, each_front xs ys a.1)
 
-  each_back : (xs ys : List Made) → All (Lows most) (xs ++ ys) → All (Lows most) ys
+  each_back : (xs ys : List Made) → AllByRecursion (Lows most) (xs ++ ys) → AllByRecursion (Lows most) ys
   each_back [] ys a = a
   each_back (x ∷ xs) ys a = each_back xs ys a.1
 
-  each_beside : (f g : Forest Made) → All (Lows most) (listing f) → All (Lows most) (listing g) → All (Lows most) (listing (beside f g))
+  each_beside : (f g : Forest Made) → AllByRecursion (Lows most) (listing f) → AllByRecursion (Lows most) (listing g) → AllByRecursion (Lows most) (listing (beside f g))
   each_beside bare g a b = b
   each_beside (plant r below after) g a b = (
     a.0,
@@ -47,7 +47,7 @@ module _ (most : ℕ) where
         (each_beside after g (each_back (listing below) (listing after) a.1) b),
   )
 
-  each_over : (rs : List Made) (f : Forest Made) → All (Lows most) rs → All (Lows most) (listing f) → All (Lows most) (listing (over rs f))
+  each_over : (rs : List Made) (f : Forest Made) → AllByRecursion (Lows most) rs → AllByRecursion (Lows most) (listing f) → AllByRecursion (Lows most) (listing (over rs f))
   each_over rs bare a b = tt
   each_over [] (plant x below after) a b = b
   each_over (r ∷ rs) (plant x below after) a b =
@@ -56,16 +56,16 @@ module _ (most : ℕ) where
   abbrev In : Levels → Type 0
   In v = (v.rep ≤ v.def) × (v.def ≤ most)
 
-  each_wrap : (x : Read) (i : Items) (r : Repetition) (v : Levels) (p : Bool) → In v → All (Lows most) (wrap x i r v p)
+  each_wrap : (x : Read) (i : Items) (r : Repetition) (v : Levels) (p : Bool) → In v → AllByRecursion (Lows most) (wrap x i r v p)
   each_wrap x i required v p h = tt
   each_wrap x i optional v p h = tt
   each_wrap x i repeated v p h = (h, tt)
 
-  each_struct : (x : Read) (o : Bool) (r : Repetition) (v : Levels) → In v → All (Lows most) (struct_part x o r v)
+  each_struct : (x : Read) (o : Bool) (r : Repetition) (v : Levels) → In v → AllByRecursion (Lows most) (struct_part x o r v)
   each_struct x false r v h = tt
   each_struct x true r v h = (h, tt)
 
-  each_sides : (role : Role) (both : Bool) (f : Forest Made) → All (Lows most) (listing f) → All (Lows most) (listing (both_sides role both f))
+  each_sides : (role : Role) (both : Bool) (f : Forest Made) → AllByRecursion (Lows most) (listing f) → AllByRecursion (Lows most) (listing (both_sides role both f))
   each_sides own both f a = a
   each_sides listed both f a = a
   each_sides middle both f a = a
@@ -74,13 +74,13 @@ module _ (most : ℕ) where
   each_sides mapped true f a = a
   each_sides mapped false f a = tt
 
-  each_leaf : (c : Bool) (x : Read) (r : Repetition) (v : Levels) → In v → All (Lows most) (listing (leaf_part c x r v))
+  each_leaf : (c : Bool) (x : Read) (r : Repetition) (v : Levels) → In v → AllByRecursion (Lows most) (listing (leaf_part c x r v))
   each_leaf true x r v h = (h, tt)
   each_leaf false x r v h = tt
 
   module _ (chosen : ℕ → Bool) where
     each_element : (k : Kind) (x : Read) (role : Role) (r : Repetition) (v : Levels) (p both : Bool) (inner : Forest Made)
-        → In v → All (Lows most) (listing inner) → All (Lows most) (listing (element_rows chosen k x role r v p both inner))
+        → In v → AllByRecursion (Lows most) (listing inner) → AllByRecursion (Lows most) (listing (element_rows chosen k x role r v p both inner))
     each_element (leaf c) x role r v p both inner h a =
         each_over (wrap x of_list r v p) (leaf_part (chosen x.of.leaf_number) x r v) (each_wrap x of_list r v p h) (each_leaf (chosen x.of.leaf_number) x r v h)
     each_element (group n) x role r v p both inner h a =
@@ -94,7 +94,7 @@ low_raised v optional h = (omega arith, omega arith)
 low_raised v repeated h = (omega arith, omega arith)
 
 module _ (most : ℕ) (chosen : ℕ → Bool) where
-  ordered : (f : Forest Read) (v : Levels) (p : Bool) → v.rep ≤ v.def → v.def + height f ≤ most → All (Lows most) (listing (shape chosen v p f))
+  ordered : (f : Forest Read) (v : Levels) (p : Bool) → v.rep ≤ v.def → v.def + height f ≤ most → AllByRecursion (Lows most) (listing (shape chosen v p f))
   unfolding shape
   ordered bare v p h k = tt
   ordered (plant x below after) v p h k =
@@ -110,7 +110,7 @@ module _ (most : ℕ) (chosen : ℕ → Bool) where
 
 -- the root, which is required, adds to no level
 ordered_root : (most : ℕ) (chosen : ℕ → Bool) (x : Read) (below : Forest Read) (v : Levels) (p : Bool) → x.of.repetition ≡ required
-    → v.rep ≤ v.def → v.def + height below ≤ most → All (Lows most) (listing (shape chosen v p (plant x below bare)))
+    → v.rep ≤ v.def → v.def + height below ≤ most → AllByRecursion (Lows most) (listing (shape chosen v p (plant x below bare)))
 unfolding shape
 ordered_root most chosen x below v p e h k =
     let r = x.of.repetition in
@@ -194,7 +194,7 @@ module _ (chosen : ℕ → Bool) where
 
 -- ── The whole schema ──
 
-pub ordered_rows : (chosen : ℕ → Bool) (t : Tree Spelled) → t.root.repetition ≡ None → All (Lows (height t.under)) (listing (rows chosen t))
+pub ordered_rows : (chosen : ℕ → Bool) (t : Tree Spelled) → t.root.repetition ≡ None → AllByRecursion (Lows (height t.under)) (listing (rows chosen t))
 unfolding reading
 ordered_rows chosen t e =
     let f = numbered 1 0 t.under in

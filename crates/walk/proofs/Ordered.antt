@@ -1,7 +1,7 @@
 -- The walking order is the order of the table, and the faults of one element come by rank.
-use Rattle.std.proofs.Common.{◌≡◌, ℕ, zero, suc, ◌+◌, ◌≤◌, Bool, true, false, cond, not, ◌&&◌, ◌||◌, List, [], ◌∷◌, ◌++◌, map, length, Some, sym, refl, ap, ◌∙◌, subst, ap₂, arith, length-append}
-use mathlib.Core.List.{map_append}
-use Rattle.std.specs.List.{range_with_len, AllByRecursion as All}
+use Rattle.std.proofs.Common.{◌≡◌, ℕ, ◌+◌, ◌≤◌, Bool, true, false, cond, not, ◌&&◌, ◌||◌, List, [], ◌∷◌, ◌++◌, map, Some, sym, refl, ap, ◌∙◌, subst, ap₂, arith, length-append}
+use mathlib.Core.List.{map-append}
+use Rattle.std.specs.List.{range_with_len, AllByRecursion}
 use Rattle.walk.proofs.Numbers.{counting_append}
 use Rattle.walk.specs.Faults.{Typing, leaf_hint}
 use Rattle.walk.specs.Forests.{Spot, first_below, one_tree, some_root, trees, two_trees}
@@ -47,7 +47,7 @@ walked_counted b u h t g n k (plant e below after) l =
     let f = hinting (compares_names role) (field_hint t u (sole h)) (hands_on role (wrapped t x.repetition) (sole h)) (reading (child_part role x.name bs) (held_by t g x) bs) in
     let rest = hinting b u (others h) (reading (next_part t) g (numbered (n + 1 + count below) k' after)) in
     ap {B = List ℕ} (λ (ns : List ℕ). n ∷ ns)
-    (map_append spot_number (below_groups e.kind (walked f)) (walked rest)
+    (map-append spot_number (below_groups e.kind (walked f)) (walked rest)
     ∙ ap₂ (λ (x y : List ℕ). x ++ y)
     (below_counted e.kind (walked f) (n + 1) below l.0
     (walked_counted (compares_names role) (field_hint t u (sole h)) (hands_on role (wrapped t x.repetition) (sole h)) (child_part role x.name bs) (held_by t g x) (n + 1) k below l.1))
@@ -77,20 +77,20 @@ rising a b (n ∷ ns) p = (p.0, rising n b ns p.1)
 -- refusals that name e, and whose ranks rise between two bounds
 record Fine (e a b : ℕ) (rs : List Refusal) : Type 0 where
   pub ranked : Between a b (map rank rs)
-  pub names : All (λ r. element_of r ≡ Some e) rs
+  pub names : AllByRecursion (λ r. element_of r ≡ Some e) rs
 
 one : (e a b : ℕ) (x : Bool) (r : Refusal) → element_of r ≡ Some e → a ≤ rank r → rank r ≤ b → Fine e a b (when x r)
 one e a b true r n p q = record { ranked = (p, q); names = (n, tt) }
 one e a b false r n p q = record { ranked = omega (arith, p, q); names = tt }
 
-all_append : {A : Type 0} (P : A → Type 0) (xs ys : List A) → All P xs → All P ys → All P (xs ++ ys)
+all_append : {A : Type 0} (P : A → Type 0) (xs ys : List A) → AllByRecursion P xs → AllByRecursion P ys → AllByRecursion P (xs ++ ys)
 all_append P [] ys p q = q
 all_append P (x ∷ xs) ys p q = (p.0, all_append P xs ys p.1 q)
 
 both : {e a b c : ℕ} {xs ys : List Refusal} → Fine e a b xs → Fine e b c ys → Fine e a c (xs ++ ys)
 both {e} {a} {b} {c} {xs} {ys} p q =
     record {
-      ranked = subst (λ (ns : List ℕ). Between a c ns) (sym (map_append rank xs ys)) (between_append a b c (map rank xs) (map rank ys) p.ranked q.ranked);
+      ranked = subst (λ (ns : List ℕ). Between a c ns) (sym (map-append rank xs ys)) (between_append a b c (map rank xs) (map rank ys) p.ranked q.ranked);
       names = all_append (λ r. element_of r ≡ Some e) xs ys p.names q.names;
     }
 

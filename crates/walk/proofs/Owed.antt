@@ -1,5 +1,5 @@
 -- In a schema that is read, what an optional LIST or MAP group passes-null falls to a repeated child.
-use Rattle.std.proofs.Common.{◌≡◌, ℕ, zero, suc, Bool, true, false, cond, not, ◌&&◌, ◌||◌, List, [], ◌∷◌, ◌++◌, sym, refl, ap, ◌∙◌, subst, ap₂, arith}
+use Rattle.std.proofs.Common.{◌≡◌, ℕ, Bool, true, false, cond, not, ◌&&◌, ◌||◌, List, sym, refl, ap, ◌∙◌, subst, arith}
 use Rattle.walk.proofs.Follow.{Owing}
 use Rattle.walk.specs.Labels.{Numbered, is_leaf, is_optional, is_repeated, repeated_element}
 use Rattle.walk.specs.Reading.{Holder, Part, by_annotation, child_part, entries_role, first_is_element, held_by, list_child, list_role, map_child, map_role, next_part, reading, role_of}

@@ -1,15 +1,13 @@
 -- What the elements of a path say of its levels.
-use Rattle.std.proofs.Common.{◌≡◌, ℕ, zero, suc, ◌+◌, ◌<◌, ◌≤◌, Bool, true, false, cond, eqb, ◌⊎◌, List, [], ◌∷◌, ◌++◌, map, filter, sym, refl, ap, ◌∙◌, subst, ap₂, inl, inr, arith}
-use Rattle.std.proofs.lemmas.Bool.{eqb-true, eqb-false, eq-eqb, ne_eqb, cases_eq}
+use Rattle.std.proofs.Common.{◌≡◌, ℕ, suc, ◌+◌, ◌<◌, ◌≤◌, Bool, false, cond, eqb, ◌⊎◌, List, [], ◌∷◌, ◌++◌, filter, refl, ap, ◌∙◌, inl, inr, arith}
+use Rattle.std.proofs.lemmas.Bool.{eq-eqb, ne_eqb, cases_eq}
 use Rattle.walk.proofs.Follow.{levels_from, openings_from, readings_from}
-use Rattle.walk.specs.Hints.{sole}
 use Rattle.walk.specs.Levels.{Meaning, Means, Opens, Says, definition_level, repetition_level}
 use Rattle.walk.specs.Levels.Meaning.{absent, no_items}
 use Rattle.walk.specs.Shape.{raised}
 use Rattle.walk.specs.declared.levels.Levels.{Levels}
 use Rattle.schema.specs.declared.basic.Repetition.{Repetition}
 use Rattle.schema.specs.declared.basic.Repetition.TheVariants.{Optional as optional, Repeated as repeated, Required as required}
-use Rattle.tree.specs.Forest.{depth}
 
 pub rep_from : (v : Levels) (rs : List Repetition) → (levels_from v rs).rep ≡ v.rep + repetition_level rs
 rep_from v [] = omega arith

@@ -1,6 +1,6 @@
 -- The walk is refused with the first fault in walking order.
-use Rattle.std.proofs.Common.{◌≡◌, ℕ, zero, suc, ◌+◌, ◌≤◌, Bool, true, false, cond, not, ◌&&◌, ◌||◌, List, [], ◌∷◌, ◌++◌, map, Some, None, Ok, Err, sym, refl, ap, ◌∙◌, subst, ap₂, append_assoc, append-nil, arith}
-use Rattle.std.specs.List.{flat_map, AllByRecursion as All}
+use Rattle.std.proofs.Common.{◌≡◌, ℕ, Bool, false, List, [], ◌∷◌, ◌++◌, Some, None, Ok, Err, sym, refl, ap, ◌∙◌, ap₂, append_assoc, arith}
+use Rattle.std.specs.List.{flat_map, AllByRecursion}
 use Rattle.walk.proofs.Firsts.{element_first, head, heads}
 use Rattle.walk.specs.Faults.{Typing, below_group, checks, refusals}
 use Rattle.walk.specs.Forests.{Spot, relabel, trees}
@@ -11,7 +11,6 @@ use Rattle.walk.specs.Laws.{RefusedFirst}
 use Rattle.walk.specs.Reading.{Holder, Part, Read, child_part, held_by, next_part, nobody, reading, role_of}
 use Rattle.walk.specs.Reading.Part.{as_root}
 use Rattle.walk.specs.Refusing.{Faultless, FirstFault, below_groups, faults_at, of_label, walked}
-use Rattle.walk.specs.Shape.{rows}
 use Rattle.walk.specs.Walk.{all_refusals, full_rows, handed, unless_refused}
 use Rattle.schema.specs.declared.element.Kind.{Kind}
 use Rattle.schema.specs.declared.element.Kind.TheVariants.{Group as group, Leaf as leaf}
@@ -101,21 +100,21 @@ module _ (typing : Typing) (chosen : ℕ → Bool) where
           }
 
   found_first : (before : List (Spot Read)) (here : Spot Read) (after : List (Spot Read)) (r : Refusal) (others : List Refusal)
-      → All (Faultless typing chosen) before → faults here ≡ r ∷ others → head (flat_map faults (before ++ here ∷ after)) ≡ Some r
+      → AllByRecursion (Faultless typing chosen) before → faults here ≡ r ∷ others → head (flat_map faults (before ++ here ∷ after)) ≡ Some r
   found_first [] here after r others a e = ap (λ (l : List Refusal). head (l ++ flat_map faults after)) e
   found_first (p ∷ before) here after r others a e =
       ap (λ (l : List Refusal). head (l ++ flat_map faults (before ++ here ∷ after))) a.0 ∙ found_first before here after r others a.1 e
 
-  none_joined : (ps : List (Spot Read)) → All (Faultless typing chosen) ps → flat_map faults ps ≡ []
+  none_joined : (ps : List (Spot Read)) → AllByRecursion (Faultless typing chosen) ps → flat_map faults ps ≡ []
   none_joined [] a = refl
   none_joined (p ∷ ps) a = ap₂ (λ (x y : List Refusal). x ++ y) a.0 (none_joined ps a.1)
 
-  joined_none : (ps : List (Spot Read)) → flat_map faults ps ≡ [] → All (Faultless typing chosen) ps
+  joined_none : (ps : List (Spot Read)) → flat_map faults ps ≡ [] → AllByRecursion (Faultless typing chosen) ps
   joined_none [] e = tt
   joined_none (p ∷ ps) e = go (faults p) refl e (joined_none ps)
     where
-      go : (l : List Refusal) → faults p ≡ l → l ++ flat_map faults ps ≡ [] → (flat_map faults ps ≡ [] → All (Faultless typing chosen) ps)
-          → All (Faultless typing chosen) (p ∷ ps)
+      go : (l : List Refusal) → faults p ≡ l → l ++ flat_map faults ps ≡ [] → (flat_map faults ps ≡ [] → AllByRecursion (Faultless typing chosen) ps)
+          → AllByRecursion (Faultless typing chosen) (p ∷ ps)
       go [] k h more = (k, more h)
       go (q ∷ qs) k h more = absurd (let z : ◌≡◌ {A = ℕ} 0 1 = cc in omega arith)
 

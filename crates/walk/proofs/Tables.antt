@@ -1,6 +1,6 @@
 -- Levels on flat tables.
-use Rattle.std.proofs.Common.{◌≡◌, ℕ, zero, suc, ◌+◌, ◌-◌, ◌<◌, ◌≤◌, Bool, true, false, cond, ltb, ◌⊎◌, List, [], ◌∷◌, ◌++◌, map, length, get_or, drop, Some, None, Option, sym, refl, ap, ◌∙◌, subst, ap₂, inl, inr, append_assoc, append-nil, arith}
-use mathlib.Core.List.{map_append}
+use Rattle.std.proofs.Common.{◌≡◌, ℕ, zero, suc, ◌+◌, ◌-◌, ◌<◌, ◌≤◌, Bool, true, false, cond, ltb, List, [], ◌∷◌, ◌++◌, map, length, get_or, Some, None, Option, sym, refl, ap, ◌∙◌, subst, ap₂, append-nil, arith}
+use mathlib.Core.List.{map-append}
 use Rattle.std.proofs.lemmas.Bool.{cond-true}
 use Rattle.tree.proofs.Ancestors.{ancestors, holds_yes}
 use Rattle.columns.proofs.Paths.{root_size}
@@ -14,11 +14,9 @@ use Rattle.walk.proofs.Lists.{count_relabel, map_twice}
 use Rattle.walk.proofs.Main.{each_pair, levels_are, opens_each, reads_each}
 use Rattle.walk.proofs.Numbers.{count_numbered, numbered_in_order, relabel_numbered}
 use Rattle.walk.proofs.Once.{kept_among}
-use Rattle.walk.proofs.Paths.{found}
 use Rattle.walk.proofs.Tidy.{Tidy, tidy_rows}
 use Rattle.walk.specs.Flat.{LevelsRead, SizedRow, blank_row, path_repetitions, result_at, size_of, table_of, way_of, with_sizes}
 use Rattle.walk.specs.Forests.{Spot, Way, along, on_way, relabel, ways}
-use Rattle.walk.specs.Hints.{fits}
 use Rattle.walk.specs.Labels.{Numbered, numbered, numbered_as, or_required, shown_tree}
 use Rattle.walk.specs.Laws.{FlatLevels, Paired, RowsLieFlat, full_row, kept_leaves, shaped_row, unnumbered}
 use Rattle.walk.specs.Levels.{Among, Belongs, Meaning, OpensEach, OpensOnce, ReadsEach, ReadsOnce, Repeats, Says, definition_level, is_leaf_row, kept_leaf, leaf_row_at, leaf_row_of, leaves, path, repetition_level, row_leaf, spot_repetition}
@@ -32,7 +30,6 @@ use Rattle.schema.specs.Words.{Spelled}
 use Rattle.schema.specs.declared.basic.Repetition.{Repetition}
 use Rattle.schema.specs.declared.basic.Repetition.TheVariants.{Optional as optional, Repeated as repeated, Required as required}
 use Rattle.schema.specs.declared.element.Element.{Element}
-use Rattle.schema.specs.declared.element.Kind.TheVariants.{Leaf as leaf}
 use Rattle.tree.specs.Around.{around, holds_place, line}
 use Rattle.tree.specs.Forest.{Forest, Sized, Tree, alone, count, listing}
 use Rattle.tree.specs.Forest.Forest.{bare, plant}
@@ -210,7 +207,7 @@ leaf_path names bytes elements fin p a =
     let rep : Numbered → Repetition = λ x. x.repetition in (
       fits,
       sym (map_twice rep of spot_repetition (λ s. refl) (along p))
-          ∙ ap (map rep) (map_append of p.above (p.end ∷ []) ∙ r.goes ∙ ap (trail (numbered 0 0 (alone t))) (let z : n - 0 ≡ n = omega arith in z))
+          ∙ ap (map rep) (map-append of p.above (p.end ∷ []) ∙ r.goes ∙ ap (trail (numbered 0 0 (alone t))) (let z : n - 0 ≡ n = omega arith in z))
           ∙ labels_trail names (alone fin.0) n
           ∙ path_trail bytes elements fin n fits,
     )

@@ -1,6 +1,6 @@
 -- No rows lie below a leaf row; so the leaf rows of the flat result are the ends of the ways.
-use Rattle.std.proofs.Common.{◌≡◌, ℕ, zero, suc, Bool, true, false, cond, ◌&&◌, ◌||◌, List, [], ◌∷◌, ◌++◌, map, filter, sym, refl, ap, ◌∙◌, subst, ap₂, append_assoc, append-nil, arith}
-use mathlib.Core.List.{map_append}
+use Rattle.std.proofs.Common.{◌≡◌, ℕ, Bool, true, false, cond, ◌&&◌, ◌||◌, List, [], ◌∷◌, ◌++◌, map, filter, sym, refl, ap, ◌∙◌, subst, ap₂, append-nil, arith}
+use mathlib.Core.List.{map-append}
 use Rattle.std.proofs.lemmas.List.Elements.{filter-append}
 use Rattle.walk.proofs.Follow.{Groups, groups_of, made_leaf}
 use Rattle.walk.proofs.Lists.{map_twice}
@@ -79,7 +79,7 @@ leaf_listing (plant r below after) t =
     ap (λ (l : List Made). cond (made_leaf r) (r ∷ l) l)
     (filter-append made_leaf (listing below) (listing after) ∙ ap₂ (λ (a b : List Made). a ++ b) (leaf_listing below t.1) (leaf_listing after t.2))
     ∙ go (made_leaf r) t.0
-    ∙ sym (map_append (λ (w : Way Made). w.end) (cond (made_leaf r) (straight r ∷ []) (map (under r) (ways made_leaf below))) (ways made_leaf after))
+    ∙ sym (map-append (λ (w : Way Made). w.end) (cond (made_leaf r) (straight r ∷ []) (map (under r) (ways made_leaf below))) (ways made_leaf after))
   where
     ends : List (Way Made) → List Made
     ends = map (λ (w : Way Made). w.end)

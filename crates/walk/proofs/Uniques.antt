@@ -1,8 +1,7 @@
 -- Elements in preorder with their depths are the listing of one tree.
-use Rattle.std.proofs.Common.{◌≡◌, ℕ, zero, suc, ◌+◌, ◌<◌, List, [], ◌∷◌, ◌++◌, map, sym, refl, ap, ◌∙◌, subst, ap₂, append_assoc, append-nil, arith}
-use Rattle.walk.proofs.Firsts.{heads}
+use Rattle.std.proofs.Common.{◌≡◌, ℕ, ◌+◌, ◌<◌, List, [], ◌∷◌, ◌++◌, map, sym, refl, ap, ◌∙◌, append_assoc, append-nil, arith}
 use Rattle.walk.proofs.Lists.{listing_relabel}
-use Rattle.walk.specs.Forests.{relabel, under}
+use Rattle.walk.specs.Forests.{relabel}
 use Rattle.walk.specs.Hints.{others}
 use Rattle.walk.specs.Labels.{shown_tree}
 use Rattle.walk.specs.Laws.{SameSchema}

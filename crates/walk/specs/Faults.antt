@@ -13,7 +13,7 @@ use Rattle.walk.specs.declared.role.Role.{Role}
 use Rattle.walk.specs.declared.role.Role.TheVariants.{Own as own, Listed as listed, Middle as middle, Mapped as mapped, Entries as entries, Broken as broken}
 use Rattle.walk.specs.Forests.{trees}
 use Rattle.walk.specs.Hints.{Hint, any_list, plain_list, any_struct, any_map, fits, has_children, over_two}
-use Rattle.walk.specs.Reading.{Part, Read}
+use Rattle.walk.specs.Reading.{Read}
 use Rattle.walk.specs.Handing.{wrapped, unwrap}
 
 abbrev pub unless : Bool → Refusal → List Refusal

@@ -6,14 +6,12 @@ use Rattle.walk.specs.Faults.{Typing}
 use Rattle.walk.specs.Forests.{Spot, roots}
 use Rattle.walk.specs.Handing.{unwrap, wrapped}
 use Rattle.walk.specs.Hints.{Hint, inside, others, sole}
-use Rattle.walk.specs.Reading.{Part, Read, list_child}
+use Rattle.walk.specs.Reading.{Part, Read}
 use Rattle.walk.specs.Reading.Part.{as_element, as_entries, as_field, as_key, as_middle, as_root}
 use Rattle.walk.specs.Refusing.{by_itself}
 use Rattle.walk.specs.Shape.{Row}
 use Rattle.walk.specs.Walk.{Full, full_of, metadata_of}
-use Rattle.walk.specs.Worked.{id}
 use Rattle.walk.specs.declared.role.Role.TheVariants.{Entries as entries, Listed as listed, Mapped as mapped, Middle as middle, Own as own}
-use Rattle.schema.specs.declared.element.Kind.TheVariants.{Group as group}
 use Rattle.tree.specs.Forest.{Forest}
 use Rattle.arrow.specs.declared.row.Metadata.TheVariants as m
 

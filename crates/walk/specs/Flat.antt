@@ -1,5 +1,5 @@
 -- Levels on flat tables. No tree is needed to read this: a row's subtree is as many rows, from it on, as its size tells.
-use Rattle.std.specs.Prelude.{◌≡◌, ℕ, suc, ◌<◌, ◌≤◌, Bool, false, List, map, slice_index_or}
+use Rattle.std.specs.Prelude.{◌≡◌, ℕ, suc, ◌<◌, ◌≤◌, false, List, map, slice_index_or}
 use Rattle.columns.specs.Levels.{def_level, path_of, rep_level, row_at}
 use Rattle.walk.specs.Labels.{or_required}
 use Rattle.walk.specs.Levels.{Belongs, Meaning, OpensOnce, ReadsOnce, Repeats}

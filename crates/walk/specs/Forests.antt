@@ -1,5 +1,5 @@
 -- Trees side by side, whatever their labels: how they are put together, and the ways down to their leaves.
-use Rattle.std.specs.Prelude.{ℕ, zero, suc, max, Bool, true, false, cond, ◌||◌, List, [], ◌∷◌, ◌++◌, map}
+use Rattle.std.specs.Prelude.{ℕ, suc, max, Bool, true, false, cond, ◌||◌, List, [], ◌∷◌, ◌++◌, map}
 use Rattle.tree.specs.Forest.{Forest}
 use Rattle.tree.specs.Forest.Forest.{bare, plant}
 

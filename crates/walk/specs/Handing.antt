@@ -6,7 +6,7 @@ use Rattle.schema.specs.declared.basic.Repetition.{Repetition}
 use Rattle.walk.specs.declared.role.Role.{Role}
 use Rattle.walk.specs.declared.role.Role.TheVariants.{Own as own, Listed as listed, Middle as middle, Mapped as mapped, Entries as entries, Broken as broken}
 use Rattle.walk.specs.Labels.{is_repeated}
-use Rattle.walk.specs.Hints.{Hint, Given, sole, others, inside}
+use Rattle.walk.specs.Hints.{Hint, sole, others, inside}
 use Rattle.walk.specs.Reading.{Part, Read}
 use Rattle.walk.specs.Reading.Part.{as_root, as_field, as_key, as_element, as_middle, as_entries}
 

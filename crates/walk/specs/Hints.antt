@@ -1,5 +1,5 @@
 -- Hints: an Arrow schema as trees, and what the walk asks of the hint that an element is given.
-use Rattle.std.specs.Prelude.{ℕ, suc, ◌+◌, Bool, true, false, ◌&&◌, List, Some, None, Option, ◌==◌}
+use Rattle.std.specs.Prelude.{ℕ, ◌+◌, Bool, true, false, ◌&&◌, List, Some, None, Option, ◌==◌}
 use Rattle.arrow.specs.Same.{bytes_at}
 use Rattle.arrow.specs.declared.hint.HintRow.{HintRow}
 use Rattle.arrow.specs.declared.types.ArrowType.{ArrowType}

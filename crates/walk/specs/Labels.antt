@@ -1,6 +1,6 @@
 -- The elements of a schema, with their numbers.
 use Rattle.std.specs.Prelude.{ℕ, ◌+◌, Bool, true, false, cond, List, ℤ, Some, None, Option}
-use Rattle.walk.specs.Forests.{relabel, under}
+use Rattle.walk.specs.Forests.{relabel}
 use Rattle.schema.specs.Posts.{shown_as}
 use Rattle.schema.specs.Words.{Spelled}
 use Rattle.schema.specs.declared.basic.Repetition.{Repetition}

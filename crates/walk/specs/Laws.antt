@@ -1,13 +1,13 @@
 -- The laws of the walk.
 use Rattle.std.specs.Prelude.{◌≡◌, ℕ, ◌*◌, ◌<◌, ◌≤◌, Bool, true, ◌||◌, List, [], ◌∷◌, map, Some, Ok, Err, filter, ◌≢◌}
-use Rattle.std.specs.List.{range_with_len, AllByRecursion as All}
+use Rattle.std.specs.List.{range_with_len, AllByRecursion}
 use Rattle.arrow.specs.declared.row.LeafNumbers.{LeafNumbers}
 use Rattle.columns.specs.Levels.{leaves_of}
 use Rattle.walk.specs.Faults.{Typing}
 use Rattle.walk.specs.Fields.{FieldsBelow, HandsOn, RootField, nth_hint}
 use Rattle.walk.specs.Flat.{LevelsRead, result_at, size_of, table_of, with_sizes}
-use Rattle.walk.specs.Forests.{Spot, Way, on_way, planted, relabel, roots, spots, trees, ways}
-use Rattle.walk.specs.Hints.{Hint, others}
+use Rattle.walk.specs.Forests.{Spot, Way, on_way, planted, relabel, roots, spots, ways}
+use Rattle.walk.specs.Hints.{Hint}
 use Rattle.walk.specs.Labels.{Numbered, is_leaf, leaf_count, leaf_node, numbered, numbered_as, shown_tree}
 use Rattle.walk.specs.Levels.{OpensEach, ReadsEach, kept_leaf, leaf_row_of, leaves, row_leaf}
 use Rattle.walk.specs.Published.{ElementType, KeyValue, ListAgrees, MapAgrees, MapAnnotated, Unannotated}
@@ -16,7 +16,6 @@ use Rattle.walk.specs.Refusing.{Faultless, FirstFault, faults_at, rank, walked}
 use Rattle.walk.specs.Shape.{Row, Shaped, plain_rows, shape, shape_of}
 use Rattle.walk.specs.Shape.RowKind.{leaf_row}
 use Rattle.walk.specs.Walk.{Full, full_rows, handed, walk}
-use Rattle.walk.specs.Worked.{flat, id}
 use Rattle.walk.specs.Yields.{some_yield}
 use Rattle.walk.specs.declared.levels.Levels.{Levels}
 use Rattle.schema.specs.Posts.{shown_as}
@@ -91,7 +90,7 @@ TwoRowsAnElement = (chosen : ℕ → Bool) (t : Tree Spelled) → count (plain_r
 -- Levels keep R ≤ D ≤ 64, where the schema's rows are a schema by their depths.
 abbrev pub LevelsBounded : Type 0
 LevelsBounded = (chosen : ℕ → Bool) (names : List ℕ) (bytes : ℕ) (t : Tree Element) (table : List Element) → SchemaTree bytes t table
-    → All (Low 64) (listing (plain_rows chosen (shown_tree names t)))
+    → AllByRecursion (Low 64) (listing (plain_rows chosen (shown_tree names t)))
 
 -- There are rows exactly if something yields.
 abbrev pub YieldsRows : Type 0
@@ -138,8 +137,8 @@ LeavesEnd (plant e below after) = (is_leaf e.kind ≡ true → below ≡ bare) �
 pub record RefusalLaw (typing : Typing) (chosen : ℕ → Bool) (hints : Forest Hint) (t : Tree Spelled) : Type 0 where
   pub refused : (r : Refusal) → walk typing chosen hints t ≡ Err r → FirstFault typing chosen (walked (handed hints t)) r
   pub first : (r : Refusal) → FirstFault typing chosen (walked (handed hints t)) r → walk typing chosen hints t ≡ Err r
-  pub accepted : (f : Forest Full) → walk typing chosen hints t ≡ Ok f → All (Faultless typing chosen) (walked (handed hints t))
-  pub faultless : All (Faultless typing chosen) (walked (handed hints t)) → walk typing chosen hints t ≡ Ok (full_rows typing chosen hints t)
+  pub accepted : (f : Forest Full) → walk typing chosen hints t ≡ Ok f → AllByRecursion (Faultless typing chosen) (walked (handed hints t))
+  pub faultless : AllByRecursion (Faultless typing chosen) (walked (handed hints t)) → walk typing chosen hints t ≡ Ok (full_rows typing chosen hints t)
 
 abbrev pub RefusedFirst : Type 0
 RefusedFirst = (typing : Typing) (chosen : ℕ → Bool) (hints : Forest Hint) (t : Tree Spelled) → RefusalLaw typing chosen hints t
@@ -153,7 +152,7 @@ Rising from (n ∷ ns) = (from ≤ n) × Rising n ns
 pub record OrderLaw (typing : Typing) (chosen : ℕ → Bool) (hints : Forest Hint) (t : Tree Spelled) : Type 0 where
   pub elements : LeavesEnd (alone t) → map (λ (p : Spot Read). p.node.of.number) (walked (handed hints t)) ≡ range_with_len 0 (count (alone t))
   pub ranks : (p : Spot Read) → Rising 0 (map rank (faults_at typing chosen p))
-  pub names : (p : Spot Read) → All (λ r. element_of r ≡ Some p.node.of.number) (faults_at typing chosen p)
+  pub names : (p : Spot Read) → AllByRecursion (λ r. element_of r ≡ Some p.node.of.number) (faults_at typing chosen p)
 
 abbrev pub WalkedInOrder : Type 0
 WalkedInOrder = (typing : Typing) (chosen : ℕ → Bool) (hints : Forest Hint) (t : Tree Spelled) → OrderLaw typing chosen hints t
@@ -181,14 +180,14 @@ hinted_spots hints t = listing (spots (handed hints t))
 pub record HintLaw (hints : Forest Hint) (t : Tree Spelled) : Type 0 where
   -- the root is given the first hint
   pub root : map (λ (x : Read). x.given.hint) (roots (handed hints t)) ≡ nth_hint 0 hints ∷ []
-  pub others : All HandsOn (hinted_spots hints t)
+  pub others : AllByRecursion HandsOn (hinted_spots hints t)
 
 abbrev pub HintsReach : Type 0
 HintsReach = (hints : Forest Hint) (t : Tree Spelled) → HintLaw hints t
 
 pub record FieldLaw (typing : Typing) (hints : Forest Hint) (t : Tree Spelled) : Type 0 where
-  pub root : All (RootField typing) (roots (handed hints t))
-  pub others : All (FieldsBelow typing) (hinted_spots hints t)
+  pub root : AllByRecursion (RootField typing) (roots (handed hints t))
+  pub others : AllByRecursion (FieldsBelow typing) (hinted_spots hints t)
 
 abbrev pub FieldsTold : Type 0
 FieldsTold = (typing : Typing) (hints : Forest Hint) (t : Tree Spelled) → FieldLaw typing hints t

@@ -3,15 +3,14 @@ use Rattle.std.specs.Prelude.{◌≡◌, ℕ, zero, suc, ◌<◌, ◌≤◌, Boo
 use Rattle.walk.specs.Forests.{Spot, Way, along, spots, ways}
 use Rattle.walk.specs.Labels.{Numbered, is_leaf, is_optional}
 use Rattle.walk.specs.Reading.{Read}
-use Rattle.walk.specs.Shape.{Row, RowKind, read, rows}
+use Rattle.walk.specs.Shape.{Row, RowKind, read}
 use Rattle.walk.specs.Shape.RowKind.{items_row, leaf_row, struct_row}
 use Rattle.walk.specs.Yields.{half_taken}
 use Rattle.walk.specs.declared.levels.Levels.{Levels}
 use Rattle.schema.specs.Words.{Spelled}
 use Rattle.schema.specs.declared.basic.Repetition.{Repetition}
 use Rattle.schema.specs.declared.basic.Repetition.TheVariants.{Optional as optional, Repeated as repeated, Required as required}
-use Rattle.schema.specs.declared.element.Kind.TheVariants.{Leaf as leaf}
-use Rattle.tree.specs.Forest.{Tree, alone}
+use Rattle.tree.specs.Forest.{Tree}
 
 -- ── The schema ──
 

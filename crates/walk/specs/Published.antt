@@ -1,5 +1,5 @@
 -- Lists and maps as the page on logical types of the Parquet format describes them, sentence by sentence, apart from how the walk reads them.
-use Rattle.std.specs.Prelude.{◌≡◌, ℕ, Bool, true, false, ◌⊎◌, List, [], ◌∷◌, ◌++◌, map, Some, None, codes, Option, ◌≢◌}
+use Rattle.std.specs.Prelude.{◌≡◌, ℕ, true, false, ◌⊎◌, List, [], ◌∷◌, ◌++◌, map, Some, None, codes, Option, ◌≢◌}
 use Rattle.walk.specs.Forests.{first_below, roots}
 use Rattle.walk.specs.Labels.{Numbered, is_leaf, is_optional}
 use Rattle.walk.specs.Reading.{Part, Read, nobody, reading, role_of}

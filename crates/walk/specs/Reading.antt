@@ -1,5 +1,5 @@
 -- How each element of a schema is read. All rules for LIST and MAP stand here: what a group is, and what its repeated child is.
-use Rattle.std.specs.Prelude.{ℕ, Bool, true, false, cond, not, ◌&&◌, ◌||◌, List, [], ◌∷◌, ◌++◌, ℤ, None, codes, Option}
+use Rattle.std.specs.Prelude.{ℕ, Bool, true, false, cond, not, ◌&&◌, ◌||◌, List, [], ◌++◌, ℤ, None, codes, Option}
 use Rattle.std.specs.Str.{bytes_eq}
 use Rattle.tree.specs.Forest.{Forest}
 use Rattle.tree.specs.Forest.Forest.{bare, plant}

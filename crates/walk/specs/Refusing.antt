@@ -1,12 +1,12 @@
 -- What is wrong at an element, with its children and its hint: each fault by itself, whatever else is wrong. And the first fault in walking order.
-use Rattle.std.specs.Prelude.{◌≡◌, ℕ, ◌≤◌, Bool, true, false, cond, not, ◌&&◌, ◌||◌, List, [], ◌∷◌, ◌++◌, map, Some, None, Option, ◌==◌}
+use Rattle.std.specs.Prelude.{◌≡◌, ℕ, Bool, true, false, cond, not, ◌&&◌, ◌||◌, List, [], ◌∷◌, ◌++◌, Some, None, Option, ◌==◌}
 use Rattle.std.specs.Str.{bytes_eq}
-use Rattle.std.specs.List.{AllByRecursion as All}
+use Rattle.std.specs.List.{AllByRecursion}
 use Rattle.arrow.specs.declared.types.ArrowType.{ArrowType}
 use Rattle.walk.specs.Faults.{Typing, leaf_hint}
 use Rattle.walk.specs.Forests.{Spot, first_below, one_tree, some_root, trees, two_trees}
 use Rattle.walk.specs.Handing.{unwrap, wrapped}
-use Rattle.walk.specs.Hints.{Hint, Nesting, any_list, any_map, any_struct, nesting, others, over_two, plain_list}
+use Rattle.walk.specs.Hints.{Hint, Nesting, any_list, any_map, any_struct, nesting, over_two, plain_list}
 use Rattle.walk.specs.Labels.{Numbered, is_leaf, is_repeated}
 use Rattle.walk.specs.Reading.{Part, Read}
 use Rattle.walk.specs.Reading.Part.{as_element, as_entries, as_field, as_key, as_middle, as_root}
@@ -140,7 +140,7 @@ module _ (typing : Typing) (chosen : ℕ → Bool) where
     pub here : Spot Read
     pub after : List (Spot Read)
     pub splits : walked ≡ before ++ here ∷ after
-    pub none_before : All Faultless before
+    pub none_before : AllByRecursion Faultless before
     pub others : List Refusal
     pub first : faults_at here ≡ r ∷ others
 

@@ -1,12 +1,11 @@
 -- Worked schemas: one table of cases, each a schema with a selection and hints, and what the walk gives.
-use Rattle.std.specs.Prelude.{◌≡◌, ℕ, suc, Bool, true, false, not, ◌&&◌, List, [], ◌∷◌, ◌++◌, map, ℤ, pos, Some, None, Ok, Err, codes, Option, Result, ◌==◌}
+use Rattle.std.specs.Prelude.{◌≡◌, ℕ, suc, Bool, true, false, not, List, [], ◌∷◌, map, pos, Some, None, Ok, Err, codes, Option, Result, ◌==◌}
 use Prim.Native.String.{String}
 use Rattle.std.specs.List.{flat_map}
 use Rattle.arrow.specs.declared.hint.HintRow.{HintRow}
 use Rattle.arrow.specs.declared.row.Metadata.{Metadata}
 use Rattle.arrow.specs.declared.types.ArrowType.{ArrowType}
 use Rattle.arrow.specs.declared.types.TextPlace.{TextPlace}
-use Rattle.walk.specs.Forests.{under}
 use Rattle.walk.specs.Levels.{Means, reads}
 use Rattle.walk.specs.Levels.Meaning.{absent, no_items}
 use Rattle.walk.specs.Shape.{RowKind, shape_of}

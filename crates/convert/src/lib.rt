@@ -1,5 +1,6 @@
 // The conversion of a finished schema into rows of Arrow fields.
 #![tactic(auto)]
+
 ghost use Rattle.std.specs.Prelude.{◌≡◌, ℕ, ◌-◌, ◌*◌, ◌≤◌, List, ◌++◌, length, take, replicate};
 ghost use Rattle.schema.specs.Reach.{Reached, whole};
 ghost use Rattle.schema.specs.Rows.{IsFinished};

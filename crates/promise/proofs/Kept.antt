@@ -1,13 +1,12 @@
 -- The promise, from what every conversion does.
-use Rattle.std.proofs.Common.{◌≡◌, ℕ, ◌+◌, ◌*◌, ◌<◌, ◌≤◌, Bool, true, false, ◌&&◌, ◌||◌, ltb, ◌⊎◌, List, [], ◌∷◌, ◌++◌, map, length, get_or, take, replicate, Some, None, Ok, Err, filter, Result, sym, refl, ap, ◌∙◌, subst, ap₂, inl, inr, arith}
+use Rattle.std.proofs.Common.{◌≡◌, ℕ, ◌*◌, ◌<◌, Bool, true, false, ◌&&◌, ◌||◌, ltb, List, [], ◌∷◌, map, length, get_or, take, Some, None, Ok, Err, filter, Result, sym, refl, ap, ◌∙◌, subst, inl, inr, arith}
 use Rattle.std.specs.List.{range_with_len, AllByRecursion}
 use Rattle.std.proofs.lemmas.List.FromFn.{take-map-range_with_len, fill_by_all, get_or-map-range_with_len, length-map-range_with_len}
 use Rattle.std.proofs.ByRecursion.{All-get_or}
 use Rattle.std.proofs.lemmas.List.{take_at, get_or_append_left}
-use Rattle.std.proofs.lemmas.Bool.{lt-ltb, ltb-false}
+use Rattle.std.proofs.lemmas.Bool.{ltb-false}
 use Rattle.tree.specs.Forest.{Forest, Tree, Lists, alone, count, listing}
 use Rattle.tree.specs.Forest.Forest.{bare}
-use Rattle.schema.specs.declared.element.Element.{Element}
 use Rattle.schema.specs.declared.refusal.Refusal.{Refusal}
 use Rattle.schema.specs.declared.refusal.Refusal.TheVariants as no
 use Rattle.schema.specs.Posts.{shown_as}
@@ -28,14 +27,13 @@ use Rattle.arrow.specs.HintTrees.{IsHint}
 use Rattle.arrow.specs.Kinds.{hint_span, row_span}
 use Rattle.walk.specs.Flat.{LevelsRead, SizedRow, table_of}
 use Rattle.walk.specs.Flat.{result_at as table_row}
-use Rattle.walk.specs.Forests.{Spot, Way, relabel}
+use Rattle.walk.specs.Forests.{relabel}
 use Rattle.walk.specs.Hints.{Hint, hints_of}
 use Rattle.walk.specs.Labels.{leaf_count, shown_tree}
 use Rattle.walk.specs.Laws.{full_row, kept_leaves, shaped_row}
 use Rattle.walk.specs.Laws.{Low as LowRow}
 use Rattle.walk.specs.Levels.{is_leaf_row, leaf_row_of, leaves as leaf_ways, row_leaf}
 use Rattle.walk.specs.Faults.{Typing}
-use Rattle.walk.specs.Reading.{Read}
 use Rattle.walk.specs.Refusing.{faults_at}
 use Rattle.walk.specs.Results.{line_of, lines, plain_row, read_table}
 use Rattle.walk.specs.Shape.{Row, Shaped, plain_rows, rows, shaped_of}
@@ -50,9 +48,9 @@ use Rattle.walk.proofs.Ordered.{walked_in_order}
 use Rattle.walk.proofs.Refused.{refused_first}
 use Rattle.walk.proofs.Tables.{flat_levels}
 use Rattle.walk.proofs.Uniques.{same_schema}
-use Rattle.promise.specs.Conversion.{Accepted, Conversion, Converts, Refused, Settled, counted, empty_row, kept, leaves, short_table}
+use Rattle.promise.specs.Conversion.{Accepted, Conversion, Converts, Settled, counted, empty_row, kept, leaves, short_table}
 use Rattle.promise.specs.Conversion.Converts.{no_hint, no_room, other_memory, walked}
-use Rattle.promise.specs.Promise.{Alike, ColumnAgrees, Fulfilled, Low, PromiseKept, Promised, SameChoice, TreeOf, in_use, outline, result_at}
+use Rattle.promise.specs.Promise.{Alike, ColumnAgrees, Fulfilled, Low, PromiseKept, SameChoice, in_use, outline, result_at}
 use Rattle.promise.proofs.Leaves.{RightNumbers, all_passing, at_depth, kept_right, leaf_count_is, leaves_count, leaves_end, listed_column}
 use Rattle.promise.proofs.Rows.{leaf_kind, length_used, outline_used, outlines, plain_used, replanted, row_used, table_used}
 

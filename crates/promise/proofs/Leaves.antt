@@ -1,9 +1,9 @@
 -- The leaves of a schema, by their numbers, and the columns of a listing.
-use Rattle.std.proofs.Common.{◌≡◌, ℕ, zero, suc, ◌+◌, ◌<◌, ◌≤◌, Bool, true, false, cond, List, [], ◌∷◌, ◌++◌, map, length, get_or, take, Ok, filter, sym, refl, ap, ◌∙◌, subst, ap₂, arith}
+use Rattle.std.proofs.Common.{◌≡◌, ℕ, zero, suc, ◌+◌, ◌<◌, ◌≤◌, Bool, true, false, cond, List, [], ◌∷◌, map, length, get_or, Ok, filter, sym, refl, ap, ◌∙◌, arith}
 use lib.ListN.{length-map}
 use Rattle.std.specs.List.{range_with_len, AllByRecursion}
 use Rattle.std.proofs.lemmas.List.FromFn.{length-range_with_len, get_or-range_with_len}
-use Rattle.std.proofs.ByRecursion.{all_from_every, All-get_or, all_kept_by, All-map}
+use Rattle.std.proofs.ByRecursion.{all_from_every, all_kept_by, All-map}
 use Rattle.std.proofs.lemmas.List.{get_or_append_left, get_or-map}
 use Rattle.tree.specs.Forest.{Forest, Tree, alone}
 use Rattle.tree.specs.Forest.Forest.{bare, plant}
@@ -19,12 +19,12 @@ use Rattle.columns.specs.declared.record.PathRecord.{PathRecord}
 use Rattle.columns.specs.Levels.{leaves_of, path_of}
 use Rattle.columns.specs.Listing.{Listing, column_of, columns_from, empty_column}
 use Rattle.arrow.specs.declared.row.LeafNumbers.{LeafNumbers}
-use Rattle.walk.specs.Forests.{Spot, Way, on_way, relabel, ways}
-use Rattle.walk.specs.Labels.{Numbered, is_leaf, leaf_count, leaf_node, numbered, shown_tree}
+use Rattle.walk.specs.Forests.{Spot, Way, on_way, relabel}
+use Rattle.walk.specs.Labels.{Numbered, is_leaf, leaf_count, shown_tree}
 use Rattle.walk.specs.Laws.{LeavesEnd, kept_leaves}
-use Rattle.walk.specs.Levels.{is_leaf_row, kept_leaf, leaf_row_of, leaves, row_leaf}
+use Rattle.walk.specs.Levels.{kept_leaf, leaf_row_of, leaves}
 use Rattle.walk.specs.Reading.{Read}
-use Rattle.walk.specs.Shape.{Row, RowKind}
+use Rattle.walk.specs.Shape.{Row}
 use Rattle.walk.specs.Shape.RowKind.{leaf_row}
 use Rattle.walk.proofs.Lists.{map_twice}
 use Rattle.walk.proofs.Listed.{leaves_as_listed}

@@ -1,9 +1,9 @@
 -- The rows of a walk, flat, and a table that shows them.
-use Rattle.std.proofs.Common.{◌≡◌, ℕ, suc, ◌+◌, ◌<◌, List, [], ◌∷◌, ◌++◌, map, length, get_or, take, drop, Some, sym, refl, ap, ◌∙◌, subst, ap₂, arith, length-append}
+use Rattle.std.proofs.Common.{◌≡◌, ℕ, suc, ◌+◌, ◌<◌, List, [], ◌∷◌, ◌++◌, map, length, take, drop, Some, sym, refl, ap, ◌∙◌, ap₂, arith, length-append}
 use mathlib.Core.List.{map-append}
 use lib.ListN.{length-map}
 use Rattle.std.proofs.lemmas.List.{take_at, drop_at, take-map, drop-map, take-append-drop, get_or-map}
-use Rattle.tree.specs.Forest.{Forest, Lists, Sized, count, listing}
+use Rattle.tree.specs.Forest.{Forest, Lists, count, listing}
 use Rattle.tree.specs.Forest.Forest.{bare, plant}
 use Rattle.arrow.specs.declared.row.LeafNumbers.{LeafNumbers}
 use Rattle.arrow.specs.declared.row.ResultRow.{ResultRow}
@@ -14,7 +14,7 @@ use Rattle.walk.specs.Forests.{relabel}
 use Rattle.walk.specs.Hints.{nesting}
 use Rattle.walk.specs.Laws.{full_row, shaped_row}
 use Rattle.walk.specs.Results.{Line, kind_told, lines, line_of, plain_row, read_table, sized_as}
-use Rattle.walk.specs.Shape.{Row, RowKind, Shaped}
+use Rattle.walk.specs.Shape.{RowKind, Shaped}
 use Rattle.walk.specs.Shape.RowKind.{leaf_row}
 use Rattle.walk.specs.Walk.{Full}
 use Rattle.walk.proofs.Lists.{count_relabel, map_twice}

@@ -1,5 +1,5 @@
 -- What a conversion answers and leaves, whatever it is given.
-use Rattle.std.specs.Prelude.{◌≡◌, ℕ, ◌-◌, ◌*◌, Bool, true, false, ◌||◌, List, [], ◌++◌, map, length, take, replicate, None, Ok, Err, Result, nat_lt}
+use Rattle.std.specs.Prelude.{◌≡◌, ℕ, ◌-◌, ◌*◌, Bool, true, false, ◌||◌, List, ◌++◌, map, length, take, replicate, None, Ok, Err, Result, nat_lt}
 use Rattle.std.specs.List.{range_with_len}
 use Rattle.tree.specs.Forest.{Forest, Lists, count}
 use Rattle.schema.specs.declared.draft.Schema.{Schema}

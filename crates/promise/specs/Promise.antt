@@ -1,7 +1,7 @@
 -- The main promise: what an accepted conversion holds, after every history of calls that led to its schema.
-use Rattle.std.specs.Prelude.{◌≡◌, ℕ, ◌+◌, ◌<◌, ◌≤◌, Bool, List, map, take, Some, Ok, Err, filter, Option, slice_index_or}
+use Rattle.std.specs.Prelude.{◌≡◌, ℕ, ◌+◌, ◌<◌, ◌≤◌, Bool, List, map, take, Some, Ok, Err, filter, slice_index_or}
 use Rattle.std.specs.List.{AllByRecursion}
-use Rattle.tree.specs.Forest.{Forest, Tree, Lists, Sized, alone, listing}
+use Rattle.tree.specs.Forest.{Forest, Tree, Lists, alone, listing}
 use Rattle.tree.specs.Forest.Forest.{bare, plant}
 use Rattle.schema.specs.declared.refusal.Refusal.TheVariants as no
 use Rattle.schema.specs.Reach.{Reached, SchemaHolds, whole}

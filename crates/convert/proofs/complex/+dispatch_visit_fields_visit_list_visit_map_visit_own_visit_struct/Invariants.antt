@@ -8,24 +8,24 @@ use Rattle.convert.proofs.complex.+dispatch_visit_fields_visit_list_visit_map_vi
 abbrev pub decreases-dispatch : goal.decreases-dispatch
 decreases-dispatch l = 5 * (element_at l.source.elements.now l.at).size + 4
 
-abbrev pub decreases-visit-fields : goal.decreases-visit-fields
-decreases-visit-fields l = 5 * (element_at l.source.elements.now l.at).size
+abbrev pub decreases-visit_fields : goal.decreases-visit_fields
+decreases-visit_fields l = 5 * (element_at l.source.elements.now l.at).size
 
-abbrev pub decreases-visit-list : goal.decreases-visit-list
-decreases-visit-list l = 5 * (element_at l.source.elements.now l.at).size + 3
+abbrev pub decreases-visit_list : goal.decreases-visit_list
+decreases-visit_list l = 5 * (element_at l.source.elements.now l.at).size + 3
 
-abbrev pub decreases-visit-map : goal.decreases-visit-map
-decreases-visit-map l = 5 * (element_at l.source.elements.now l.at).size + 3
+abbrev pub decreases-visit_map : goal.decreases-visit_map
+decreases-visit_map l = 5 * (element_at l.source.elements.now l.at).size + 3
 
-abbrev pub decreases-visit-own : goal.decreases-visit-own
-decreases-visit-own l = 5 * (element_at l.source.elements.now l.at).size + 2
+abbrev pub decreases-visit_own : goal.decreases-visit_own
+decreases-visit_own l = 5 * (element_at l.source.elements.now l.at).size + 2
 
-abbrev pub decreases-visit-struct : goal.decreases-visit-struct
-decreases-visit-struct l = 5 * (element_at l.source.elements.now l.at).size + 1
+abbrev pub decreases-visit_struct : goal.decreases-visit_struct
+decreases-visit_struct l = 5 * (element_at l.source.elements.now l.at).size + 1
 
-abbrev pub invariant-visit-fields-loop-next : goal.invariant-visit-fields-loop-next
-invariant-visit-fields-loop-next l =
+abbrev pub invariant-visit_fields-loop-next : goal.invariant-visit_fields-loop-next
+invariant-visit_fields-loop-next l =
     Inside (read_by l.initial.source) l.initial.at l.initial.levels l.initial.hint l.initial.cursor l.initial.rows l.next l.given l.cursor l.rows
 
-abbrev pub decreases-visit-fields-loop-next : goal.decreases-visit-fields-loop-next
-decreases-visit-fields-loop-next l = left l.initial.source.elements.now l.next
+abbrev pub decreases-visit_fields-loop-next : goal.decreases-visit_fields-loop-next
+decreases-visit_fields-loop-next l = left l.initial.source.elements.now l.next

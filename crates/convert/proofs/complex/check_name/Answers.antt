@@ -20,14 +20,14 @@ not_off false h = sym h
 pub returns-then-not-task : goal.returns-then-not-task
 returns-then-not-task c = λ hs p. name_off c.args.at (part (read_by c.args.source).names c.args.element.name) c.args.task.named hs (not_on c.args.task.named c.if-not-task.true)
 
-pub returns-then-not-has-name : goal.returns-then-not-has-name
-returns-then-not-has-name c = λ hs p. (
+pub returns-then-not-has_name : goal.returns-then-not-has_name
+returns-then-not-has_name c = λ hs p. (
   [],
   name_on c.args.at (part (read_by c.args.source).names c.args.element.name) c.args.task.named hs false (not_off c.args.task.named c.if-not-task.false)
-      (ap (λ (x : List ℕ). named_as x hs) (sym c.bytes-at-name.ensures) ∙ sym (c.has-name.ensures hs p) ∙ c.if-not-has-name.true),
+      (ap (λ (x : List ℕ). named_as x hs) (sym c.bytes_at-name.ensures) ∙ sym (c.has_name.ensures hs p) ∙ c.if-not-has_name.true),
 )
 
 pub returns : goal.returns
 returns c = λ hs p.
     name_on c.args.at (part (read_by c.args.source).names c.args.element.name) c.args.task.named hs true (not_off c.args.task.named c.if-not-task.false)
-    (ap (λ (x : List ℕ). named_as x hs) (sym c.bytes-at-name.ensures) ∙ sym (c.has-name.ensures hs p) ∙ c.if-not-has-name.false)
+    (ap (λ (x : List ℕ). named_as x hs) (sym c.bytes_at-name.ensures) ∙ sym (c.has_name.ensures hs p) ∙ c.if-not-has_name.false)

@@ -8,18 +8,18 @@ use Rattle.convert.specs.Visit.{read_by}
 use Rattle.convert.proofs.Handing.{struct_other, struct_by}
 use Rattle.convert.proofs.complex.check_struct.Goals as goal
 
-pub returns-then-not-fits-struct : goal.returns-then-not-fits-struct
-returns-then-not-fits-struct c = λ e b n q hs p.
-    (_, struct_other c.args.at (trees b) hs (sym (c.fits-struct.ensures (read_by c.args.source).text hs p) ∙ c.if-not-fits-struct.true))
+pub returns-then-not-fits_struct : goal.returns-then-not-fits_struct
+returns-then-not-fits_struct c = λ e b n q hs p.
+    (_, struct_other c.args.at (trees b) hs (sym (c.fits_struct.ensures (read_by c.args.source).text hs p) ∙ c.if-not-fits_struct.true))
 
-pub returns-then-not-has-children : goal.returns-then-not-has-children
-returns-then-not-has-children c = λ e b n q hs p. (
+pub returns-then-not-has_children : goal.returns-then-not-has_children
+returns-then-not-has_children c = λ e b n q hs p. (
   [],
-  struct_by c.args.at (trees b) hs (sym (c.fits-struct.ensures (read_by c.args.source).text hs p) ∙ c.if-not-fits-struct.false) false
-      (ap (λ (m : ℕ). has_children m hs) (sym (c.count-children-fields.ensures e b n q)) ∙ sym (c.has-children.ensures (read_by c.args.source).text hs p) ∙ c.if-not-has-children.true),
+  struct_by c.args.at (trees b) hs (sym (c.fits_struct.ensures (read_by c.args.source).text hs p) ∙ c.if-not-fits_struct.false) false
+      (ap (λ (m : ℕ). has_children m hs) (sym (c.count_children-fields.ensures e b n q)) ∙ sym (c.has_children.ensures (read_by c.args.source).text hs p) ∙ c.if-not-has_children.true),
 )
 
 pub returns : goal.returns
 returns c = λ e b n q hs p.
-    struct_by c.args.at (trees b) hs (sym (c.fits-struct.ensures (read_by c.args.source).text hs p) ∙ c.if-not-fits-struct.false) true
-    (ap (λ (m : ℕ). has_children m hs) (sym (c.count-children-fields.ensures e b n q)) ∙ sym (c.has-children.ensures (read_by c.args.source).text hs p) ∙ c.if-not-has-children.false)
+    struct_by c.args.at (trees b) hs (sym (c.fits_struct.ensures (read_by c.args.source).text hs p) ∙ c.if-not-fits_struct.false) true
+    (ap (λ (m : ℕ). has_children m hs) (sym (c.count_children-fields.ensures e b n q)) ∙ sym (c.has_children.ensures (read_by c.args.source).text hs p) ∙ c.if-not-has_children.false)

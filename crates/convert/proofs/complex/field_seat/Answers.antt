@@ -27,8 +27,8 @@ returns c = record {
     hint = p;
     name = refl;
     key = refl;
-    metadata = c.metadata-of.ensures (read_by c.args.source).text hs p;
-    list = c.list-kind.ensures (read_by c.args.source).text hs p ∙ list_of c.args.task.key hs;
+    metadata = c.metadata_of.ensures (read_by c.args.source).text hs p;
+    list = c.list_kind.ensures (read_by c.args.source).text hs p ∙ list_of c.args.task.key hs;
     element = part_of c.args.task.key;
     unnamed = refl;
   };

@@ -4,10 +4,10 @@ use Rattle.std.proofs.lemmas.List.{nil_from_length}
 use Rattle.convert.proofs.Whole.{no_first, first_hinted}
 use Rattle.convert.proofs.complex.root_hint.Goals as goal
 
-pub returns-then-is-empty : goal.returns-then-is-empty
-returns-then-is-empty c h l =
-    no_first c.args.source.text.now h (l.lists ∙ nil_from_length c.args.source.hints.now (eqb-true (length c.args.source.hints.now) 0 (sym c.if-is-empty.ensures)))
+pub returns-then-is_empty : goal.returns-then-is_empty
+returns-then-is_empty c h l =
+    no_first c.args.source.text.now h (l.lists ∙ nil_from_length c.args.source.hints.now (eqb-true (length c.args.source.hints.now) 0 (sym c.if-is_empty.ensures)))
 
-pub returns-else-is-empty : goal.returns-else-is-empty
-returns-else-is-empty c h l =
-    first_hinted c.args.source.hints.now c.args.source.text.now h l (eqb-false (length c.args.source.hints.now) 0 (sym c.if-is-empty.ensures))
+pub returns-else-is_empty : goal.returns-else-is_empty
+returns-else-is_empty c h l =
+    first_hinted c.args.source.hints.now c.args.source.text.now h l (eqb-false (length c.args.source.hints.now) 0 (sym c.if-is_empty.ensures))

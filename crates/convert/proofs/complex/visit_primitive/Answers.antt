@@ -14,45 +14,45 @@ use Rattle.convert.proofs.Written.{wrote_none}
 use Rattle.convert.proofs.Seated.{leaf_unchosen, leaf_misfit, leaf_untyped, leaf_typed, typed_as, untyped_as}
 use Rattle.convert.proofs.complex.visit_primitive.Goals as goal
 
-pub returns-then-not-is-chosen : goal.returns-then-not-is-chosen
-returns-then-not-is-chosen c = λ t below q.
+pub returns-then-not-is_chosen : goal.returns-then-not-is_chosen
+returns-then-not-is_chosen c = λ t below q.
     let s = read_by c.args.source in
     subst (λ (o : Outcome). Wrote s.names o c.args.from.row (c.args.from.leaf + 1) c.args.rows.now c.args.rows.now (record { row = c.args.from.row; leaf = c.args.from.leaf + 1 }))
-    (sym (leaf_unchosen s c.args.seat t q c.args.at c.args.from.leaf c.args.element c.args.leaf c.requires.kind below (sym c.is-chosen.ensures ∙ c.if-not-is-chosen.true)))
+    (sym (leaf_unchosen s c.args.seat t q c.args.at c.args.from.leaf c.args.element c.args.leaf c.requires.kind below (sym c.is_chosen.ensures ∙ c.if-not-is_chosen.true)))
     (wrote_none s.names c.args.from.row (c.args.from.leaf + 1) c.args.rows.now)
 
-pub returns-in-err-hint : goal.returns-in-err-hint
-returns-in-err-hint c = λ t below q.
+pub returns-in_err-hint : goal.returns-in_err-hint
+returns-in_err-hint c = λ t below q.
     let s = read_by c.args.source in
-    let p = err_from_is_err_and c.from-residual.result c.from-residual.ensures.1 in
-    let u = c.in-err-hint.ensures s.text t.hint q.hint in
+    let p = err_from_is_err_and c.from_residual.result c.from_residual.ensures.1 in
+    let u = c.in_err-hint.ensures s.text t.hint q.hint in
     rw (p.1, p.2)
-    (leaf_misfit s c.args.seat t q c.args.at c.args.from.leaf c.args.element c.args.leaf c.requires.kind below (sym c.is-chosen.ensures ∙ c.if-not-is-chosen.false) _
-    (ap (λ (w : Bool). wrap_checks c.args.at w t.hint) (sym c.is-wrapped-wrapped.ensures) ∙ u))
+    (leaf_misfit s c.args.seat t q c.args.at c.args.from.leaf c.args.element c.args.leaf c.requires.kind below (sym c.is_chosen.ensures ∙ c.if-not-is_chosen.false) _
+    (ap (λ (w : Bool). wrap_checks c.args.at w t.hint) (sym c.is_wrapped-wrapped.ensures) ∙ u))
 
-pub returns-in-err-data-type : goal.returns-in-err-data-type
-returns-in-err-data-type c = λ t below q.
+pub returns-in_err-data_type : goal.returns-in_err-data_type
+returns-in_err-data_type c = λ t below q.
     let s = read_by c.args.source in
-    let p = err_from_is_err_and c.from-residual-in-err-data-type.result c.from-residual-in-err-data-type.ensures.1 in
-    let u = c.in-ok-hint.ensures s.text t.hint q.hint in
-    let w = c.is-wrapped-wrapped.ensures in
-    let h = subst (λ (x : Bool). Hinted s.hints s.text c.in-ok-hint.hint (unwrap x t.hint)) w u.1 in
-    let n = untyped_as c.args.at (converted_leaf c.args.leaf s.hints s.text c.in-ok-hint.hint) _ _ c.in-err-data-type.ensures.answer refl in
+    let p = err_from_is_err_and c.from_residual-in_err-data_type.result c.from_residual-in_err-data_type.ensures.1 in
+    let u = c.in_ok-hint.ensures s.text t.hint q.hint in
+    let w = c.is_wrapped-wrapped.ensures in
+    let h = subst (λ (x : Bool). Hinted s.hints s.text c.in_ok-hint.hint (unwrap x t.hint)) w u.1 in
+    let n = untyped_as c.args.at (converted_leaf c.args.leaf s.hints s.text c.in_ok-hint.hint) _ _ c.in_err-data_type.ensures.answer refl in
     rw (p.1, p.2)
-    (leaf_untyped s c.args.seat t q c.args.at c.args.from.leaf c.args.element c.args.leaf c.requires.kind below (sym c.is-chosen.ensures ∙ c.if-not-is-chosen.false)
+    (leaf_untyped s c.args.seat t q c.args.at c.args.from.leaf c.args.element c.args.leaf c.requires.kind below (sym c.is_chosen.ensures ∙ c.if-not-is_chosen.false)
     (ap (λ (x : Bool). wrap_checks c.args.at x t.hint) (sym w) ∙ u.0)
-    (typing_here s.hints s.text c.args.leaf c.in-ok-hint.hint (unwrap (is_repeated (or_required c.args.element.repetition) && not c.args.seat.element) t.hint) h ∙ n.0)
+    (typing_here s.hints s.text c.args.leaf c.in_ok-hint.hint (unwrap (is_repeated (or_required c.args.element.repetition) && not c.args.seat.element) t.hint) h ∙ n.0)
     ∙ ap Err (sym n.1))
 
 pub returns : goal.returns
 returns c = λ t below q.
     let s = read_by c.args.source in
-    let u = c.in-ok-hint.ensures s.text t.hint q.hint in
-    let w = c.is-wrapped-wrapped.ensures in
-    let h = subst (λ (x : Bool). Hinted s.hints s.text c.in-ok-hint.hint (unwrap x t.hint)) w u.1 in
-    let n = typed_as c.args.at (converted_leaf c.args.leaf s.hints s.text c.in-ok-hint.hint) _ _ c.in-ok-data-type.ensures.answer refl in
-    subst (λ (o : Outcome). Wrote s.names o c.args.from.row (c.args.from.leaf + 1) c.args.rows.now c.write-leaf.new.rows c.write-leaf.result)
-    (leaf_typed s c.args.seat t q c.args.at c.args.from.leaf c.args.element c.args.leaf c.requires.kind below (sym c.is-chosen.ensures ∙ c.if-not-is-chosen.false)
-    (ap (λ (x : Bool). wrap_checks c.args.at x t.hint) (sym w) ∙ u.0) c.raise-levels.result c.raise-levels.ensures c.in-ok-data-type.data-type
-    (typing_here s.hints s.text c.args.leaf c.in-ok-hint.hint (unwrap (is_repeated (or_required c.args.element.repetition) && not c.args.seat.element) t.hint) h ∙ n))
-    (c.write-leaf.ensures s.text s.names t.hint q.hint)
+    let u = c.in_ok-hint.ensures s.text t.hint q.hint in
+    let w = c.is_wrapped-wrapped.ensures in
+    let h = subst (λ (x : Bool). Hinted s.hints s.text c.in_ok-hint.hint (unwrap x t.hint)) w u.1 in
+    let n = typed_as c.args.at (converted_leaf c.args.leaf s.hints s.text c.in_ok-hint.hint) _ _ c.in_ok-data_type.ensures.answer refl in
+    subst (λ (o : Outcome). Wrote s.names o c.args.from.row (c.args.from.leaf + 1) c.args.rows.now c.write_leaf.new.rows c.write_leaf.result)
+    (leaf_typed s c.args.seat t q c.args.at c.args.from.leaf c.args.element c.args.leaf c.requires.kind below (sym c.is_chosen.ensures ∙ c.if-not-is_chosen.false)
+    (ap (λ (x : Bool). wrap_checks c.args.at x t.hint) (sym w) ∙ u.0) c.raise-levels.result c.raise-levels.ensures c.in_ok-data_type.data_type
+    (typing_here s.hints s.text c.args.leaf c.in_ok-hint.hint (unwrap (is_repeated (or_required c.args.element.repetition) && not c.args.seat.element) t.hint) h ∙ n))
+    (c.write_leaf.ensures s.text s.names t.hint q.hint)

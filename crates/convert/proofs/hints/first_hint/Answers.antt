@@ -8,5 +8,5 @@ use Rattle.convert.proofs.hints.first_hint.Goals as goal
 pub returns-in-Some : goal.returns-in-Some
 returns-in-Some c = λ bytes hs p.
     let q = subst (λ (h : Option ℕ). Hinted c.args.hints.now bytes h hs) c.in-Some.is p in
-    subst (λ (h : Option ℕ). HintsLeft c.args.hints.now bytes h c.first-child.result (inside hs)) (sym c.in-Some.is)
-    (first_left c.args.hints.now bytes c.in-Some.row hs q c.first-child.result (simp c.new.ensures.rows at c.first-child.ensures.by_size))
+    subst (λ (h : Option ℕ). HintsLeft c.args.hints.now bytes h c.first_child.result (inside hs)) (sym c.in-Some.is)
+    (first_left c.args.hints.now bytes c.in-Some.row hs q c.first_child.result (simp c.new.ensures.rows at c.first_child.ensures.by_size))

@@ -9,4 +9,4 @@ pub returns-in-None : goal.returns-in-None
 returns-in-None c = λ bytes hs p. fits_none bytes plain_list hs (c.in-None.ensures bytes hs p)
 
 pub returns-in-Some : goal.returns-in-Some
-returns-in-Some c = λ bytes hs p. c.is-plain-list.ensures ∙ fits_row bytes plain_list c.in-Some.row hs (c.in-Some.ensures bytes hs p)
+returns-in-Some c = λ bytes hs p. c.is_plain_list.ensures ∙ fits_row bytes plain_list c.in-Some.row hs (c.in-Some.ensures bytes hs p)

@@ -11,4 +11,4 @@ pub returns-in-None : goal.returns-in-None
 returns-in-None c = λ bytes hs p. sorted_none bytes hs (c.in-None.ensures bytes hs p)
 
 pub returns-in-Some : goal.returns-in-Some
-returns-in-Some c = λ bytes hs p. c.sorted-in.ensures ∙ sorted_row bytes c.in-Some.row hs (c.in-Some.ensures bytes hs p)
+returns-in-Some c = λ bytes hs p. c.sorted_in.ensures ∙ sorted_row bytes c.in-Some.row hs (c.in-Some.ensures bytes hs p)

@@ -14,8 +14,8 @@ bounds-elements-child c =
     let s = listed_shape [] c.args.at 0 r.top r.below (c.requires.reads r.top r.below r.after r.lies [] 0) in
     omega (arith, r.inside, ap count s.is)
 
-pub count-children-requires : goal.count-children-requires
-count-children-requires c =
+pub count_children-requires : goal.count_children-requires
+count_children-requires c =
     let r = c.requires.root in
     let s = listed_shape [] c.args.at 0 r.top r.below (c.requires.reads r.top r.below r.after r.lies [] 0) in
     rooted _ _ r.whole r.lists s.child s.under bare (child_stands r.top r.below r.after r.lies s)
@@ -25,24 +25,24 @@ bounds-elements-child-in-Group c =
     let r = c.requires.root in
     let s = listed_shape [] c.args.at 0 r.top r.below (c.requires.reads r.top r.below r.after r.lies [] 0) in
     let l = child_stands r.top r.below r.after r.lies s in
-    let one = c.count-children.ensures s.child s.under bare l in
-    let some = some_child s.under (λ h. omega (arith, one, h, c.if-count-children-ne1.false)) in
+    let one = c.count_children.ensures s.child s.under bare l in
+    let some = some_child s.under (λ h. omega (arith, one, h, c.if-count_children-ne1.false)) in
     omega (arith, some, inside element_span _ _ s.child s.under bare l)
 
 pub returns-in-Leaf : goal.returns-in-Leaf
 returns-in-Leaf c = λ e b n q k.
     takes_leaf e b n q (listed_shape [] c.args.at 0 e b (c.requires.reads e b n q [] 0)) c.args.names.now k c.in-Leaf.field-0 c.in-Leaf.is
 
-pub returns-then-count-children-ne1 : goal.returns-then-count-children-ne1
-returns-then-count-children-ne1 c = λ e b n q k.
+pub returns-then-count_children-ne1 : goal.returns-then-count_children-ne1
+returns-then-count_children-ne1 c = λ e b n q k.
     let s = listed_shape [] c.args.at 0 e b (c.requires.reads e b n q [] 0) in
-    let o = c.count-children.ensures s.child s.under bare (child_stands e b n q s) in
-    takes_several e b n q s c.args.names.now k c.in-Group.annotation c.in-Group.is (λ h. c.if-count-children-ne1.true (o ∙ h))
+    let o = c.count_children.ensures s.child s.under bare (child_stands e b n q s) in
+    takes_several e b n q s c.args.names.now k c.in-Group.annotation c.in-Group.is (λ h. c.if-count_children-ne1.true (o ∙ h))
 
-pub returns-else-count-children-ne1 : goal.returns-else-count-children-ne1
-returns-else-count-children-ne1 c = λ e b n q k.
+pub returns-else-count_children-ne1 : goal.returns-else-count_children-ne1
+returns-else-count_children-ne1 c = λ e b n q k.
     let s = listed_shape [] c.args.at 0 e b (c.requires.reads e b n q [] 0) in
-    let o = c.count-children.ensures s.child s.under bare (child_stands e b n q s) in
-    takes_one e b n q s c.args.names.now k c.in-Group.annotation c.in-Group.is (sym o ∙ c.if-count-children-ne1.false)
-    ∙ sym (c.one-child.ensures
-    ∙ ap₂ (λ (x y : Bool). one_child c.in-Group.annotation x y) c.is-repeated-again.ensures (c.names-element.ensures ∙ ap₂ names_element c.bytes-at-group.ensures c.bytes-at-name.ensures))
+    let o = c.count_children.ensures s.child s.under bare (child_stands e b n q s) in
+    takes_one e b n q s c.args.names.now k c.in-Group.annotation c.in-Group.is (sym o ∙ c.if-count_children-ne1.false)
+    ∙ sym (c.one_child.ensures
+    ∙ ap₂ (λ (x y : Bool). one_child c.in-Group.annotation x y) c.is_repeated-again.ensures (c.names_element.ensures ∙ ap₂ names_element c.bytes_at-group.ensures c.bytes_at-name.ensures))

@@ -28,7 +28,7 @@ pub returns-in-List : goal.returns-in-List
 returns-in-List c = λ e b n q text k.
     at_kind text c.args.at k e b (Group a.List)
     (ap (λ (x : Element). x.kind) (sym (read_here c.args.elements.now c.args.at e b n q)) ∙ c.in-Group.is ∙ ap Group c.in-List.is)
-    ∙ c.list-role.ensures e b n q text k
+    ∙ c.list_role.ensures e b n q text k
 
 of_map : (text : List ℕ) (i k : ℕ) (e : Element) (b : Forest Element) (how : Annotation) → e.kind ≡ Group how → (how ≡ a.Map) ⊎ (how ≡ a.MapKeyValue)
     → by_annotation i e.kind (or_required e.repetition) (kids text i k b) ≡ map_role i (or_required e.repetition) (kids text i k b)
@@ -39,4 +39,4 @@ pub returns-in-Map : goal.returns-in-Map
 returns-in-Map c = λ e b n q text k.
     of_map text c.args.at k e b c.in-Group.annotation
     (ap (λ (x : Element). x.kind) (sym (read_here c.args.elements.now c.args.at e b n q)) ∙ c.in-Group.is) c.in-Map.is
-    ∙ c.map-role.ensures e b n q text k
+    ∙ c.map_role.ensures e b n q text k

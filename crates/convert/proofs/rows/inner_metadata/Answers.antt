@@ -11,5 +11,5 @@ returns-then-seat c = λ bytes hs p. ap (λ (x : Bool). inner_of x hs) (sym c.if
 
 pub returns : goal.returns
 returns c = λ bytes hs p.
-    c.metadata-of.ensures bytes (sole (inside hs)) (left_sole c.args.hints.now bytes c.args.seat.hint c.first-hint.result (inside hs) (c.first-hint.ensures bytes hs p))
+    c.metadata_of.ensures bytes (sole (inside hs)) (left_sole c.args.hints.now bytes c.args.seat.hint c.first_hint.result (inside hs) (c.first_hint.ensures bytes hs p))
     ∙ ap (λ (x : Bool). inner_of x hs) (sym c.if-seat.false)

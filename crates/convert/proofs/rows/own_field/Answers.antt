@@ -8,12 +8,12 @@ use Rattle.convert.specs.Own.{own_field, outer_field}
 use Rattle.convert.proofs.Seated.{own_inner, own_outer}
 use Rattle.convert.proofs.rows.own_field.Goals as goal
 
-pub returns-then-is-repeated : goal.returns-then-is-repeated
-returns-then-is-repeated c = λ bytes hs p.
-    sym (own_inner c.args.seat hs c.args.element.name (or_required c.args.element.repetition) (sym c.is-repeated.ensures ∙ c.if-is-repeated.true)
-    ∙ ap (λ (x : Metadata). record { name = c.args.element.name; nullable = false; metadata = x }) (sym (c.inner-metadata.ensures bytes hs p)))
+pub returns-then-is_repeated : goal.returns-then-is_repeated
+returns-then-is_repeated c = λ bytes hs p.
+    sym (own_inner c.args.seat hs c.args.element.name (or_required c.args.element.repetition) (sym c.is_repeated.ensures ∙ c.if-is_repeated.true)
+    ∙ ap (λ (x : Metadata). record { name = c.args.element.name; nullable = false; metadata = x }) (sym (c.inner_metadata.ensures bytes hs p)))
 
 pub returns : goal.returns
 returns c = λ bytes hs p.
-    c.outer-field.ensures ∙ ap (outer_field c.args.seat) c.is-optional.ensures
-    ∙ sym (own_outer c.args.seat hs c.args.element.name (or_required c.args.element.repetition) (sym c.is-repeated.ensures ∙ c.if-is-repeated.false))
+    c.outer_field.ensures ∙ ap (outer_field c.args.seat) c.is_optional.ensures
+    ∙ sym (own_outer c.args.seat hs c.args.element.name (or_required c.args.element.repetition) (sym c.is_repeated.ensures ∙ c.if-is_repeated.false))

@@ -1,9 +1,9 @@
 -- A conversion's tables, before and after they are cleared.
-use Rattle.std.proofs.Common.{◌≡◌, ℕ, ◌-◌, ◌*◌, ◌/◌, ◌<◌, ◌≤◌, Bool, true, false, ◌&&◌, ◌||◌, ltb, ◌⊎◌, List, [], ◌∷◌, ◌++◌, map, length, take, replicate, Some, None, Ok, Err, Decides, Option, Result, sym, refl, ap, ◌∙◌, subst, ap₂, inl, inr, arith}
+use Rattle.std.proofs.Common.{◌≡◌, ℕ, ◌-◌, ◌*◌, ◌/◌, ◌<◌, ◌≤◌, Bool, true, false, ◌&&◌, ltb, List, ◌++◌, map, length, take, replicate, Some, None, Ok, Err, Decides, Option, Result, sym, refl, ap, ◌∙◌, subst, ap₂, inl, inr, arith}
 use Rattle.std.specs.List.{range_with_len}
 use Rattle.std.proofs.lemmas.List.FromFn.{fill_by_all}
 use Rattle.std.proofs.lemmas.Bool.{both_ways, le-ltb, lt-ltb, or_from, or_left, or_right}
-use Rattle.tree.specs.Forest.{Forest, Lists, alone, count, listing}
+use Rattle.tree.specs.Forest.{Forest, alone, count, listing}
 use Rattle.tree.specs.Forest.Forest.{bare}
 use Rattle.schema.specs.declared.draft.Schema.{Schema}
 use Rattle.schema.specs.declared.element.Element.{Element}
@@ -15,15 +15,13 @@ use Rattle.columns.specs.Levels.{leaves_of}
 use Rattle.arrow.specs.declared.hint.HintRow.{HintRow}
 use Rattle.arrow.specs.declared.row.ResultRow.{ResultRow}
 use Rattle.arrow.specs.HintTrees.{IsHint}
-use Rattle.arrow.specs.Kinds.{hint_span}
 use Rattle.selection.specs.Choosing.{Chosen}
 use Rattle.selection.specs.Sets.{below, in_flags}
 use Rattle.walk.specs.Hints.{hints_of}
-use Rattle.walk.specs.Labels.{leaf_count, shown_tree}
-use Rattle.walk.specs.Results.{line_of, lines}
+use Rattle.walk.specs.Labels.{shown_tree}
 use Rattle.walk.specs.Walk.{Full, leaf_typing, walk_under}
 use Rattle.walk.proofs.Chosen.{same_selection}
-use Rattle.promise.specs.Conversion.{Accepted, Conversion, Converts, Refused, Settled, conversion, counted, empty_row, leaves}
+use Rattle.promise.specs.Conversion.{Conversion, Converts, Refused, Settled, conversion, empty_row, leaves}
 use Rattle.promise.specs.Conversion.Converts.{no_hint as told_hint, no_room as told_room, other_memory as told_memory, walked as told_walk}
 use Rattle.promise.proofs.Leaves.{leaf_count_is, leaves_end}
 use Rattle.convert.specs.Handed.{WholeHints}

@@ -1,5 +1,5 @@
 -- The rows of lists and maps, as the code builds them.
-use Rattle.std.proofs.Common.{◌≡◌, ℕ, Bool, true, false, List, [], ◌∷◌, Some, None, sym, refl, ap, ◌∙◌, subst, ap₂}
+use Rattle.std.proofs.Common.{◌≡◌, ℕ, Bool, List, Some, None, refl, ap, ◌∙◌, ap₂}
 use Rattle.tree.specs.Forest.{Forest}
 use Rattle.schema.specs.declared.element.Element.{Element}
 use Rattle.arrow.specs.declared.types.ArrowType.{ArrowType}

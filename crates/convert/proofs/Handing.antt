@@ -1,12 +1,11 @@
 -- Hints by their rows.
-use Rattle.std.proofs.Common.{◌≡◌, ℕ, zero, suc, ◌+◌, ◌-◌, ◌<◌, ◌≤◌, Bool, true, false, ◌&&◌, eqb, List, [], ◌∷◌, ◌++◌, length, get_or, ℤ, Some, None, Ok, Err, Option, Result, sym, refl, ap, ◌∙◌, subst, ap₂, arith, length-append, length-drop}
+use Rattle.std.proofs.Common.{◌≡◌, ℕ, suc, ◌+◌, ◌-◌, ◌<◌, ◌≤◌, Bool, true, false, ◌&&◌, eqb, List, [], ◌∷◌, ◌++◌, length, get_or, ℤ, Some, None, Ok, Err, Option, sym, refl, ap, ◌∙◌, subst, ap₂, arith, length-append, length-drop}
 use Rattle.std.specs.Option.{SomeIff}
 use Rattle.std.specs.Str.{bytes_eq}
 use Rattle.walk.specs.Forests.{trees, planted}
 use Rattle.tree.specs.Forest.{Forest, count, listing, size_at, children, Lists, HasChild, HasNext}
 use Rattle.tree.specs.Forest.Forest.{bare, plant}
 use Rattle.schema.specs.declared.element.Leaf.{Leaf}
-use Rattle.schema.specs.declared.refusal.Refusal.{Refusal}
 use Rattle.schema.specs.declared.refusal.Refusal.TheVariants as no
 use Rattle.arrow.specs.declared.types.ArrowType.{ArrowType}
 use Rattle.arrow.specs.declared.types.ArrowType.TheVariants as t
@@ -18,8 +17,7 @@ use Rattle.arrow.specs.Same.{bytes_at}
 use Rattle.walk.specs.Hints.{Hint, Nesting, nesting, hints_of, has_children, sole, inside, others, fits, over_two, any_list, any_struct, any_map, plain_list}
 use Rattle.arrow.specs.Same.{bytes_at}
 use Rattle.walk.specs.Hints.Nesting.{a_list, a_list_view, a_struct, a_map, a_dictionary, a_value}
-use Rattle.walk.specs.Handing.{unwrap}
-use Rattle.walk.specs.Faults.{unless, wrap_checks, name_checks, struct_checks, map_checks}
+use Rattle.walk.specs.Faults.{unless, name_checks, struct_checks, map_checks}
 use Rattle.walk.specs.Walk.{by_number, by_id, metadata_of, hinted_list, list_or, sorted_in, hinted_sorted, hinted_number}
 use Rattle.convert.specs.Table.{Lies}
 use Rattle.convert.specs.Handed.{hint_as, Hinted, HintsLeft, Sees, Unwrapped, typing_of, named_as}

@@ -1,8 +1,8 @@
 -- The loop over the fields of a struct.
-use Rattle.std.proofs.Common.{◌≡◌, ℕ, suc, ◌+◌, ◌-◌, ◌*◌, ◌^◌, ◌<◌, ◌≤◌, max, Bool, true, false, cond, List, [], ◌∷◌, ◌++◌, map, length, take, Some, None, Ok, Err, Option, sym, refl, ap, ◌∙◌, subst, ap₂, append_assoc, arith, length-append, length-drop}
+use Rattle.std.proofs.Common.{◌≡◌, ℕ, suc, ◌+◌, ◌<◌, ◌≤◌, max, true, false, cond, List, [], ◌∷◌, ◌++◌, map, length, take, Some, None, Ok, Err, Option, sym, refl, ap, ◌∙◌, subst, ap₂, append_assoc, arith, length-append, length-drop}
 use Rattle.std.proofs.lemmas.List.{append-nil}
 use Rattle.std.specs.Option.{SomeIff}
-use Rattle.tree.specs.Forest.{Forest, count, listing, size_at, Lists, HasChild, HasNext}
+use Rattle.tree.specs.Forest.{Forest, count, listing, size_at, HasChild, HasNext}
 use Rattle.tree.specs.Forest.Forest.{bare, plant}
 use Rattle.schema.specs.declared.element.Element.{Element}
 use Rattle.schema.specs.declared.refusal.Refusal.{Refusal}
@@ -14,16 +14,16 @@ use Rattle.walk.specs.Hints.{Hint, sole, others, inside}
 use Rattle.walk.specs.declared.levels.Levels.{Levels}
 use Rattle.convert.specs.declared.context.Cursor.{Cursor}
 use Rattle.convert.specs.declared.context.Task.{Task}
-use Rattle.convert.specs.Table.{Lies, Stands, Rooted, element_at, spelled_by}
+use Rattle.convert.specs.Table.{Lies, Stands, element_at, spelled_by}
 use Rattle.convert.specs.Handed.{Hinted, HintsLeft}
 use Rattle.walk.specs.Results.{Line, line_of}
 use Rattle.convert.specs.Outcome.{Outcome, followed}
-use Rattle.convert.specs.Visit.{Input, Wrote, Meets}
+use Rattle.convert.specs.Visit.{Input, Wrote}
 use Rattle.convert.specs.Walked.{Left, Inside, spot_of, next_leaf, own_role, gives_field, gives_all, HasHint, Ready, ReadyBelow, Dispatches, Fields}
 use Rattle.convert.proofs.Trees.{count_plant, size_told, inside as fits_inside, below, beyond, rooted, sized, any_tree}
 use Rattle.tree.specs.Walk.{left}
 use Rattle.convert.proofs.Handing.{left_sole, hinted_unique}
-use Rattle.convert.proofs.Turns.{gives_turn, gives_none, field_few, count_shown}
+use Rattle.convert.proofs.Turns.{gives_turn, gives_none, field_few}
 
 -- ── What is left ──
 
@@ -192,7 +192,7 @@ module _ {s : Input} {i : ℕ} {v : Levels} {hint : Option ℕ} {start : Cursor}
         → P (gives_all s (i + 1) start.leaf v true (inside hs) b) (start.leaf + leaf_count (spelled_by s.names b))
     anyway P w e b m q hs p =
         subst (λ (x : Forest Hint). P (gives_all s (i + 1) start.leaf v true (inside x) b) (start.leaf + leaf_count (spelled_by s.names b))) (hinted_unique s.hints s.text hint h.hs hs h.hinted p)
-        (any_tree element_span s.elements i (λ _ f. P (gives_all s (i + 1) start.leaf v true (inside h.hs) f) (start.leaf + leaf_count (spelled_by s.names f))) h.top h.all h.after h.own_at w e b m q)
+        (any_tree element_span s.elements i (λ _ f. P (gives_all s (i + 1) start.leaf v true (inside h.hs) f) (start.leaf + leaf_count (spelled_by s.names f))) h.top h.all h.after h.lies w e b m q)
 
     -- a field that is refused
     pub broken_off : (child : ℕ) → next ≡ Some child → (x : Refusal) (out' : List ResultRow) → Dispatches s child task cursor out out' (Err x) → Fields s i v hint start before out' (Err x)
@@ -243,7 +243,7 @@ module _ {s : Input} {i : ℕ} {v : Levels} {hint : Option ℕ} {start : Cursor}
           top = h.top;
           all = h.all;
           after = h.after;
-          lies = h.own_at;
+          lies = h.lies;
           rest = c;
           left = left';
           long = l ∙ h.long;
@@ -276,8 +276,8 @@ module _ {s : Input} {i : ℕ} {v : Levels} {hint : Option ℕ} {start : Cursor}
         omega (
           arith,
           sized s.elements child n.head n.under n.others_left n.lies,
-          sized s.elements i h.top h.all h.after h.own_at,
-          size_told element_span s.elements i h.top h.all h.after h.own_at,
+          sized s.elements i h.top h.all h.after h.lies,
+          size_told element_span s.elements i h.top h.all h.after h.lies,
           n.past,
           n.ending,
           count_plant n.head n.under n.others_left,

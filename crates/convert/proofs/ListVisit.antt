@@ -7,7 +7,7 @@ use Rattle.schema.specs.declared.basic.Repetition.{Repetition}
 use Rattle.schema.specs.declared.basic.Repetition.TheVariants.{Optional as optional, Repeated as repeated, Required as required}
 use Rattle.schema.specs.declared.element.Element.{Element}
 use Rattle.schema.specs.declared.element.Kind.{Kind}
-use Rattle.schema.specs.declared.element.Kind.TheVariants.{Leaf as leaf, Group as group}
+use Rattle.schema.specs.declared.element.Kind.TheVariants.{Group as group}
 use Rattle.schema.specs.declared.refusal.Refusal.{Refusal}
 use Rattle.schema.specs.declared.refusal.Refusal.TheVariants as no
 use Rattle.schema.specs.Elements.{part}

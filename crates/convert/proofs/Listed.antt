@@ -1,5 +1,5 @@
 -- A group that is read as a list.
-use Rattle.std.proofs.Common.{◌≡◌, ℕ, suc, ◌+◌, Bool, true, false, cond, not, ◌&&◌, List, [], ◌∷◌, ◌++◌, map, Some, None, Ok, Err, sym, refl, ap, ◌∙◌, subst, ap₂, append-nil, arith}
+use Rattle.std.proofs.Common.{◌≡◌, ℕ, ◌+◌, Bool, true, false, cond, List, [], map, Ok, Err, sym, refl, ap, ◌∙◌, ap₂, append-nil}
 use Rattle.tree.specs.Forest.{Forest, count}
 use Rattle.tree.specs.Forest.Forest.{bare, plant}
 use Rattle.schema.specs.declared.basic.Annotation.{Annotation}
@@ -8,30 +8,27 @@ use Rattle.schema.specs.declared.basic.Repetition.TheVariants.{Optional as optio
 use Rattle.schema.specs.declared.element.Element.{Element}
 use Rattle.schema.specs.declared.element.Kind.{Kind}
 use Rattle.schema.specs.declared.element.Kind.TheVariants.{Leaf as leaf, Group as group}
-use Rattle.schema.specs.declared.refusal.Refusal.{Refusal}
 use Rattle.schema.specs.Elements.{part}
-use Rattle.arrow.specs.declared.types.ArrowType.TheVariants as a
 use Rattle.selection.specs.Sets.{in_flags}
-use Rattle.walk.specs.Forests.{trees}
-use Rattle.walk.specs.Labels.{Numbered, is_leaf, is_optional, is_repeated, leaf_count, or_required}
+use Rattle.walk.specs.Labels.{Numbered, is_optional, is_repeated, or_required}
 use Rattle.walk.specs.Hints.{Hint, sole, others, inside}
-use Rattle.walk.specs.Reading.{Part, Holder, Read, reading, nobody, first_is_element, is_element}
-use Rattle.walk.specs.Reading.Part.{as_root, as_field, as_key, as_element, as_middle, as_entries}
-use Rattle.walk.specs.Handing.{hinting, wrapped, unwrap}
-use Rattle.walk.specs.Faults.{Typing, list_checks, group_checks}
+use Rattle.walk.specs.Reading.{Part, Read, reading, nobody, first_is_element, is_element}
+use Rattle.walk.specs.Reading.Part.{as_element, as_middle}
+use Rattle.walk.specs.Handing.{hinting}
+use Rattle.walk.specs.Faults.{Typing, list_checks}
 use Rattle.walk.specs.Shape.{Items, Made, raised, group_rows, passes_null}
-use Rattle.walk.specs.Shape.Items.{of_list, of_map}
-use Rattle.walk.specs.Shape.RowKind.{leaf_row, struct_row, items_row}
+use Rattle.walk.specs.Shape.Items.{of_list}
+use Rattle.walk.specs.Shape.RowKind.{items_row}
 use Rattle.walk.specs.Walk.{Full, full_of}
 use Rattle.walk.specs.declared.role.Role.{Role}
-use Rattle.walk.specs.declared.role.Role.TheVariants.{Own as own, Listed as listed, Middle as middle, Mapped as mapped, Entries as entries, Broken as broken}
+use Rattle.walk.specs.declared.role.Role.TheVariants.{Own as own, Listed as listed, Middle as middle}
 use Rattle.walk.specs.declared.levels.Levels.{Levels}
-use Rattle.convert.specs.Table.{label, spelled_by, kids}
+use Rattle.convert.specs.Table.{label, kids}
 use Rattle.convert.specs.Handed.{typing_of}
 use Rattle.convert.specs.Outcome.{Outcome, Told, outcome, followed, within, within_all, checked, told_label, told_below, told_tree}
 use Rattle.convert.specs.Visit.{Input}
-use Rattle.convert.specs.Walked.{next_leaf, field_told, field_as, own_role, gives_field, gives_all}
-use Rattle.convert.proofs.Outcomes.{in_turn, at_group}
+use Rattle.convert.specs.Walked.{next_leaf, field_told, field_as, gives_field, gives_all}
+use Rattle.convert.proofs.Outcomes.{at_group}
 use Rattle.convert.proofs.Shapes.{AsList, differ}
 use Rattle.convert.proofs.Turns.{free, gives_turn, gives_none}
 

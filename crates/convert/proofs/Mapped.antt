@@ -1,28 +1,25 @@
 -- A map of key and value.
-use Rattle.std.proofs.Common.{◌≡◌, ℕ, suc, ◌+◌, Bool, true, false, cond, not, ◌&&◌, ◌||◌, ◌⊎◌, List, [], ◌∷◌, ◌++◌, map, length, Some, None, Ok, Err, sym, refl, ap, ◌∙◌, subst, ap₂, inl, inr, append-nil, arith}
+use Rattle.std.proofs.Common.{◌≡◌, ℕ, ◌+◌, Bool, true, false, ◌&&◌, ◌||◌, List, [], ◌∷◌, map, length, Ok, sym, refl, ap, ◌∙◌, ap₂, arith}
 use Rattle.tree.specs.Forest.{Forest, count}
 use Rattle.tree.specs.Forest.Forest.{bare, plant}
 use Rattle.schema.specs.declared.basic.Repetition.{Repetition}
-use Rattle.schema.specs.declared.basic.Repetition.TheVariants.{Optional as optional, Repeated as repeated, Required as required}
+use Rattle.schema.specs.declared.basic.Repetition.TheVariants.{Repeated as repeated}
 use Rattle.schema.specs.declared.element.Element.{Element}
-use Rattle.schema.specs.declared.element.Kind.{Kind}
-use Rattle.schema.specs.declared.element.Kind.TheVariants.{Leaf as leaf, Group as group}
-use Rattle.schema.specs.declared.refusal.Refusal.{Refusal}
 use Rattle.selection.specs.Sets.{in_flags}
 use Rattle.walk.specs.Forests.{planted, relabel}
-use Rattle.walk.specs.Labels.{Numbered, is_leaf, is_optional, is_repeated, leaf_count, numbered, or_required}
+use Rattle.walk.specs.Labels.{Numbered, is_optional, numbered, or_required}
 use Rattle.walk.specs.Hints.{Hint, sole, others, inside}
-use Rattle.walk.specs.Reading.{Part, Holder, Read, reading, nobody}
-use Rattle.walk.specs.Reading.Part.{as_root, as_field, as_key, as_element, as_middle, as_entries}
+use Rattle.walk.specs.Reading.{Read, reading, nobody}
+use Rattle.walk.specs.Reading.Part.{as_field, as_key, as_entries}
 use Rattle.walk.specs.Handing.{hinting}
 use Rattle.walk.specs.Faults.{Typing, map_checks, refusals}
 use Rattle.walk.specs.Yields.{yields_by, some_yield, both_yield, every_yield}
 use Rattle.walk.specs.Shape.{Made, raised, group_rows, passes_null, shape}
 use Rattle.walk.specs.Shape.Items.{of_list, of_map}
 use Rattle.walk.specs.Shape.RowKind.{items_row}
-use Rattle.walk.specs.Walk.{Full, full_of, unless_refused}
+use Rattle.walk.specs.Walk.{Full, full_of}
 use Rattle.walk.specs.declared.role.Role.{Role}
-use Rattle.walk.specs.declared.role.Role.TheVariants.{Own as own, Listed as listed, Middle as middle, Mapped as mapped, Entries as entries, Broken as broken}
+use Rattle.walk.specs.declared.role.Role.TheVariants.{Mapped as mapped, Entries as entries}
 use Rattle.walk.specs.declared.levels.Levels.{Levels}
 use Rattle.walk.proofs.Tidy.{yields_rows}
 use Rattle.convert.specs.Table.{label, spelled_by, kids}
@@ -32,7 +29,7 @@ use Rattle.convert.specs.Outcome.{Outcome, Told, outcome, followed, within, with
 use Rattle.convert.specs.Visit.{Input}
 use Rattle.convert.specs.Walked.{next_leaf, field_told, field_as, own_role, gives_field, gives_all}
 use Rattle.convert.proofs.Outcomes.{in_turn, at_group}
-use Rattle.convert.proofs.Shapes.{AsMap, differ}
+use Rattle.convert.proofs.Shapes.{AsMap}
 use Rattle.convert.proofs.Turns.{free, count_shown, first_rows}
 use Rattle.convert.proofs.Listed.{no_rows, gives_single, sole_twice}
 

@@ -1,6 +1,6 @@
 -- How the outcome of a forest comes from those of its parts.
-use Rattle.std.proofs.Common.{◌≡◌, ℕ, suc, ◌+◌, ◌*◌, ◌<◌, ◌≤◌, Bool, true, false, cond, ◌&&◌, ◌||◌, List, [], ◌∷◌, ◌++◌, map, length, Some, None, Ok, Err, Option, sym, refl, ap, ◌∙◌, subst, ap₂, append_assoc, append-nil, arith, length-append}
-use Rattle.tree.specs.Forest.{Forest, count, listing}
+use Rattle.std.proofs.Common.{◌≡◌, ℕ, suc, ◌<◌, Bool, true, false, cond, List, [], ◌∷◌, ◌++◌, map, length, Ok, Err, sym, refl, ap, ◌∙◌, append_assoc, append-nil, arith, length-append}
+use Rattle.tree.specs.Forest.{Forest, count}
 use Rattle.tree.specs.Forest.Forest.{bare, plant}
 use Rattle.schema.specs.declared.basic.Annotation.{Annotation}
 use Rattle.schema.specs.declared.basic.Repetition.{Repetition}
@@ -8,13 +8,13 @@ use Rattle.schema.specs.declared.element.Leaf.{Leaf}
 use Rattle.schema.specs.declared.element.Kind.{Kind}
 use Rattle.schema.specs.declared.element.Kind.TheVariants.{Leaf as leaf, Group as group}
 use Rattle.schema.specs.declared.refusal.Refusal.{Refusal}
-use Rattle.walk.specs.Forests.{beside, over, relabel, trees, planted}
+use Rattle.walk.specs.Forests.{beside, over, relabel, trees}
 use Rattle.walk.specs.Handing.{wrapped}
 use Rattle.walk.specs.Faults.{Typing, name_checks, wrap_checks, type_checks, group_checks, own_checks, checks, below_group, refusals, leaf_hint}
 use Rattle.walk.specs.Reading.{Read}
 use Rattle.walk.specs.Yields.{both_yield}
-use Rattle.walk.specs.Shape.{Made, raised, has_own, items_of, wrap, struct_part, leaf_part, group_rows, passes_null, both_sides, element_rows, shape}
-use Rattle.walk.specs.Shape.Items.{of_list, of_map}
+use Rattle.walk.specs.Shape.{Made, raised, has_own, items_of, wrap, leaf_part, group_rows, passes_null, both_sides, element_rows, shape}
+use Rattle.walk.specs.Shape.Items.{of_list}
 use Rattle.walk.specs.Walk.{Full, full_of, unless_refused}
 use Rattle.walk.specs.declared.role.Role.{Role}
 use Rattle.walk.specs.declared.role.Role.TheVariants.{Own as own, Listed as listed, Middle as middle, Mapped as mapped, Entries as entries, Broken as broken}

@@ -1,6 +1,6 @@
 -- Roles, as the table tells them.
-use Rattle.std.proofs.Common.{◌≡◌, ℕ, suc, ◌+◌, ◌<◌, ◌≤◌, Bool, true, false, cond, not, ◌&&◌, ◌||◌, List, [], ◌∷◌, ◌++◌, length, sym, refl, ap, ◌∙◌, subst, ap₂, arith}
-use Rattle.tree.specs.Forest.{Forest, count, Lists}
+use Rattle.std.proofs.Common.{◌≡◌, ℕ, ◌+◌, ◌<◌, ◌≤◌, Bool, true, false, cond, not, ◌&&◌, ◌||◌, List, sym, refl, ap, ◌∙◌, subst, ap₂, arith}
+use Rattle.tree.specs.Forest.{Forest, count}
 use Rattle.tree.specs.Forest.Forest.{bare, plant}
 use Rattle.schema.specs.declared.element.Element.{Element}
 use Rattle.schema.specs.declared.basic.Repetition.{Repetition}
@@ -10,9 +10,9 @@ use Rattle.walk.specs.Forests.{trees}
 use Rattle.walk.specs.Labels.{is_leaf, is_repeated, or_required}
 use Rattle.walk.specs.Reading.{list_role, list_child, map_role, map_child, entries_role}
 use Rattle.walk.specs.declared.role.Role.{Role}
-use Rattle.walk.specs.declared.role.Role.TheVariants.{Own as own, Listed as listed, Middle as middle, Mapped as mapped, Entries as entries, Broken as broken}
-use Rattle.convert.specs.Table.{Lies, Stands, element_at, Rooted, kids}
-use Rattle.convert.proofs.Trees.{count_plant, read_here, sized, below, beyond, rooted}
+use Rattle.walk.specs.declared.role.Role.TheVariants.{Listed as listed, Mapped as mapped, Broken as broken}
+use Rattle.convert.specs.Table.{Stands, element_at, kids}
+use Rattle.convert.proofs.Trees.{count_plant, read_here, sized, beyond}
 
 -- ── By the number of trees ──
 

@@ -1,5 +1,5 @@
 -- What an element is told from above, and the rows that it has of its own.
-use Rattle.std.proofs.Common.{◌≡◌, ℕ, ◌+◌, Bool, true, false, cond, not, ◌&&◌, List, [], ◌∷◌, ◌++◌, map, Some, None, Ok, Err, Option, Result, sym, refl, ap, ◌∙◌, subst, ap₂, arith}
+use Rattle.std.proofs.Common.{◌≡◌, ℕ, Bool, true, false, cond, not, ◌&&◌, List, [], ◌∷◌, ◌++◌, map, Some, None, Ok, Err, Option, Result, sym, refl, ap, ◌∙◌, subst, arith}
 use Rattle.tree.specs.Forest.{Forest}
 use Rattle.tree.specs.Forest.Forest.{bare, plant}
 use Rattle.schema.specs.declared.basic.Repetition.{Repetition}
@@ -8,36 +8,35 @@ use Rattle.schema.specs.declared.element.Element.{Element}
 use Rattle.schema.specs.declared.element.Leaf.{Leaf}
 use Rattle.schema.specs.declared.element.Place.{Place}
 use Rattle.schema.specs.declared.element.Kind.{Kind}
-use Rattle.schema.specs.declared.element.Kind.TheVariants.{Leaf as leaf, Group as group}
+use Rattle.schema.specs.declared.element.Kind.TheVariants.{Leaf as leaf}
 use Rattle.schema.specs.declared.refusal.Refusal.{Refusal}
 use Rattle.schema.specs.declared.refusal.Refusal.TheVariants as no
 use Rattle.schema.specs.Elements.{part}
 use Rattle.arrow.specs.declared.types.ArrowType.{ArrowType}
-use Rattle.arrow.specs.declared.types.ArrowType.TheVariants as a
 use Rattle.arrow.specs.declared.row.LeafNumbers.{LeafNumbers}
 use Rattle.arrow.specs.declared.row.Metadata.{Metadata}
 use Rattle.arrow.specs.Convert.{answered}
 use Rattle.selection.specs.Sets.{in_flags}
 use Rattle.walk.specs.Forests.{relabel}
 use Rattle.walk.specs.Labels.{Numbered, is_optional, is_repeated, or_required}
-use Rattle.walk.specs.Hints.{Hint, Nesting, nesting, sole, inside}
+use Rattle.walk.specs.Hints.{Hint, Nesting, nesting}
 use Rattle.walk.specs.Hints.Nesting.{a_list, a_list_view, a_struct, a_map, a_dictionary, a_value}
 use Rattle.walk.specs.Reading.{Part, Read}
 use Rattle.walk.specs.Reading.Part.{as_root, as_field, as_key, as_element, as_middle, as_entries}
 use Rattle.walk.specs.Handing.{wrapped, unwrap}
 use Rattle.walk.specs.Faults.{Typing, name_checks, wrap_checks, type_checks, leaf_hint}
-use Rattle.walk.specs.Shape.{Items, RowKind, Made, raised, wrap, leaf_part, name_by, null_by}
-use Rattle.walk.specs.Shape.Items.{of_list, of_map}
-use Rattle.walk.specs.Shape.RowKind.{leaf_row, struct_row, items_row}
-use Rattle.walk.specs.Walk.{Full, full_of, list_or, hinted_list, list_type, leaf_type, type_or, metadata_of, inner_metadata, metadata_by}
+use Rattle.walk.specs.Shape.{RowKind, raised, wrap, leaf_part, name_by, null_by}
+use Rattle.walk.specs.Shape.Items.{of_list}
+use Rattle.walk.specs.Shape.RowKind.{items_row}
+use Rattle.walk.specs.Walk.{Full, full_of, list_or, hinted_list, list_type, leaf_type, type_or, inner_metadata, metadata_by}
 use Rattle.walk.specs.declared.role.Role.{Role}
 use Rattle.walk.specs.declared.role.Role.TheVariants.{Own as own}
 use Rattle.walk.specs.declared.levels.Levels.{Levels}
 use Rattle.convert.specs.declared.context.Seat.{Seat}
 use Rattle.convert.specs.Table.{label, kids}
 use Rattle.convert.specs.Handed.{typing_of}
-use Rattle.walk.specs.Results.{Line, lines, struct_or_list, kind_told, shown_row, line_of}
-use Rattle.convert.specs.Outcome.{Outcome, Told, outcome, within, within_all, checked, told_label, told_below}
+use Rattle.walk.specs.Results.{lines, struct_or_list, kind_told, shown_row}
+use Rattle.convert.specs.Outcome.{Outcome, Told, within, within_all, checked, told_label, told_below}
 use Rattle.convert.specs.Visit.{Input, Seats, stands_as, gives_as}
 use Rattle.convert.specs.Own.{outer_field, inner_of, own_field, own_row, list_row, listed_if, leaf_outcome}
 use Rattle.convert.proofs.Names.{and_false}

@@ -1,6 +1,6 @@
 -- What a role says of the tree.
-use Rattle.std.proofs.Common.{◌≡◌, ℕ, suc, ◌+◌, ◌<◌, ◌≤◌, Bool, true, false, cond, not, ◌&&◌, ◌||◌, List, [], ◌∷◌, ◌++◌, Some, None, Option, sym, refl, ap, ◌∙◌, subst, ap₂, arith}
-use Rattle.tree.specs.Forest.{Forest, count, Lists}
+use Rattle.std.proofs.Common.{◌≡◌, ℕ, ◌+◌, Bool, true, false, cond, not, ◌&&◌, List, sym, refl, ap, ◌∙◌, subst, ap₂, arith}
+use Rattle.tree.specs.Forest.{Forest}
 use Rattle.tree.specs.Forest.Forest.{bare, plant}
 use Rattle.schema.specs.declared.element.Element.{Element}
 use Rattle.schema.specs.declared.element.Leaf.{Leaf}
@@ -10,7 +10,6 @@ use Rattle.schema.specs.declared.basic.Annotation.{Annotation}
 use Rattle.schema.specs.declared.basic.Annotation.TheVariants as a
 use Rattle.schema.specs.declared.basic.Repetition.{Repetition}
 use Rattle.schema.specs.declared.basic.Repetition.TheVariants.{Required, Optional, Repeated}
-use Rattle.schema.specs.declared.refusal.Refusal.{Refusal}
 use Rattle.schema.specs.declared.refusal.Refusal.TheVariants as no
 use Rattle.schema.specs.Elements.{element_span, part}
 use Rattle.walk.specs.Forests.{trees}
@@ -18,8 +17,8 @@ use Rattle.walk.specs.Labels.{is_leaf, is_repeated, or_required}
 use Rattle.walk.specs.Reading.{by_annotation, list_role, list_child, map_role, map_child, entries_role, first_is_element, is_element, one_child, names_element}
 use Rattle.walk.specs.declared.role.Role.{Role}
 use Rattle.walk.specs.declared.role.Role.TheVariants.{Own as own, Listed as listed, Middle as middle, Mapped as mapped, Entries as entries, Broken as broken}
-use Rattle.convert.specs.Table.{Lies, Stands, element_at, Rooted, kids}
-use Rattle.convert.proofs.Trees.{read_here, sized, below, beyond, rooted}
+use Rattle.convert.specs.Table.{Stands, element_at, kids}
+use Rattle.convert.proofs.Trees.{read_here, below}
 use Rattle.convert.proofs.Roles.{again, by_one, by_several}
 
 abbrev role_no : Role → ℕ

@@ -1,29 +1,21 @@
 -- An element that has a row of its own, whatever tree is said to stand there.
-use Rattle.std.proofs.Common.{◌≡◌, ℕ, ◌+◌, Bool, true, false, cond, not, ◌&&◌, List, [], ◌∷◌, ◌++◌, Ok, Err, Result, sym, refl, ap, ◌∙◌, subst, ap₂}
+use Rattle.std.proofs.Common.{◌≡◌, ℕ, ◌+◌, cond, List, Result, sym, ap, subst}
 use Rattle.tree.specs.Forest.{Forest}
-use Rattle.tree.specs.Forest.Forest.{bare, plant}
-use Rattle.schema.specs.declared.basic.Annotation.{Annotation}
 use Rattle.schema.specs.declared.element.Element.{Element}
 use Rattle.schema.specs.declared.element.Leaf.{Leaf}
 use Rattle.schema.specs.declared.element.Kind.{Kind}
-use Rattle.schema.specs.declared.element.Kind.TheVariants.{Leaf as leaf, Group as group}
+use Rattle.schema.specs.declared.element.Kind.TheVariants.{Leaf as leaf}
 use Rattle.schema.specs.declared.refusal.Refusal.{Refusal}
 use Rattle.arrow.specs.declared.row.ResultRow.{ResultRow}
-use Rattle.walk.specs.Forests.{trees}
-use Rattle.walk.specs.Labels.{is_leaf, is_repeated, leaf_count, or_required}
-use Rattle.walk.specs.Hints.{inside}
-use Rattle.walk.specs.Handing.{unwrap}
-use Rattle.walk.specs.Faults.{wrap_checks, struct_checks}
-use Rattle.walk.specs.Shape.{raised}
+use Rattle.walk.specs.Labels.{is_leaf, leaf_count}
 use Rattle.walk.specs.declared.role.Role.TheVariants.{Own as own}
 use Rattle.convert.specs.declared.context.Cursor.{Cursor}
 use Rattle.convert.specs.declared.context.Seat.{Seat}
-use Rattle.convert.specs.Table.{Stands, element_at, spelled_by}
-use Rattle.convert.specs.Outcome.{Outcome, Told, checked}
+use Rattle.convert.specs.Table.{element_at, spelled_by}
+use Rattle.convert.specs.Outcome.{Told}
 use Rattle.convert.specs.Visit.{Input, Seats, Meets, gives_as}
-use Rattle.convert.specs.Walked.{Visits, next_leaf, gives_all}
+use Rattle.convert.specs.Walked.{Visits, next_leaf}
 use Rattle.convert.proofs.Trees.{read_here}
-use Rattle.convert.proofs.Turns.{struct_form, struct_within}
 
 pub own_leaf : (s : Input) (i : ℕ) (c : Seat) (start : Cursor) (before after : List ResultRow) (r : Result Cursor Refusal) (l : Leaf) → (element_at s.elements i).kind ≡ leaf l
     → ((t : Told) (below : Forest Element) → Seats s c t → Meets s.names (gives_as s own i start.leaf c t (element_at s.elements i) below) start.row (start.leaf + 1) before after r)

@@ -1,7 +1,7 @@
 -- What a tree that lies at a place says of the table, and that there is one at most.
-use Rattle.std.proofs.Common.{◌≡◌, ℕ, suc, ◌+◌, ◌-◌, ◌<◌, ◌≤◌, max, Bool, true, false, cond, List, [], ◌∷◌, ◌++◌, length, get_or, drop, sym, refl, ap, ◌∙◌, subst, ap₂, append_assoc, add-zero, add-one, arith, length-append, length-drop}
-use Rattle.std.proofs.lemmas.List.{get_or-drop, drop-drop, drop_at}
-use Rattle.tree.specs.Forest.{Forest, listing, count, Sized, Lists, size_at, tops, below_at, children}
+use Rattle.std.proofs.Common.{◌≡◌, ℕ, suc, ◌+◌, ◌<◌, ◌≤◌, List, ◌∷◌, ◌++◌, length, get_or, drop, sym, refl, ap, ◌∙◌, subst, append_assoc, add-zero, add-one, arith, length-append, length-drop}
+use Rattle.std.proofs.lemmas.List.{get_or-drop}
+use Rattle.tree.specs.Forest.{Forest, listing, count, Lists, size_at, tops, below_at, children}
 use Rattle.tree.specs.Forest.Forest.{bare, plant}
 use Rattle.tree.proofs.Trees.{Seen, seen_at, size_here, same_fronts, drop_next, drop_past, unique}
 use Rattle.schema.specs.declared.element.Element.{Element}

@@ -1,27 +1,26 @@
 -- Fields in turn, and a struct round its fields.
-use Rattle.std.proofs.Common.{◌≡◌, ℕ, suc, ◌+◌, ◌*◌, ◌≤◌, Bool, true, false, cond, not, ◌&&◌, List, [], ◌∷◌, ◌++◌, map, length, Some, None, Ok, Err, Option, Result, sym, refl, ap, ◌∙◌, subst, ap₂, arith}
+use Rattle.std.proofs.Common.{◌≡◌, ℕ, suc, ◌+◌, ◌*◌, ◌≤◌, Bool, true, false, not, ◌&&◌, List, [], ◌∷◌, ◌++◌, map, length, None, Ok, sym, refl, ap, ◌∙◌, ap₂, arith}
 use Rattle.tree.specs.Forest.{Forest, count}
 use Rattle.tree.specs.Forest.Forest.{bare, plant}
 use Rattle.schema.specs.declared.basic.Annotation.{Annotation}
 use Rattle.schema.specs.declared.basic.Repetition.{Repetition}
 use Rattle.schema.specs.declared.basic.Repetition.TheVariants.{Optional as optional, Repeated as repeated, Required as required}
 use Rattle.schema.specs.declared.element.Element.{Element}
-use Rattle.schema.specs.declared.element.Kind.TheVariants.{Leaf as leaf, Group as group}
+use Rattle.schema.specs.declared.element.Kind.TheVariants.{Group as group}
 use Rattle.schema.specs.declared.refusal.Refusal.{Refusal}
 use Rattle.schema.specs.Elements.{part}
 use Rattle.schema.specs.Posts.{shown_as}
-use Rattle.schema.specs.Words.{Spelled}
 use Rattle.arrow.specs.declared.types.ArrowType.TheVariants as a
 use Rattle.selection.specs.Sets.{in_flags}
 use Rattle.walk.specs.Forests.{relabel, trees}
-use Rattle.walk.specs.Labels.{Numbered, is_optional, is_repeated, numbered, or_required}
+use Rattle.walk.specs.Labels.{Numbered, is_repeated, numbered, or_required}
 use Rattle.walk.specs.Hints.{Hint, sole, others, inside}
 use Rattle.walk.specs.Reading.{Part, Holder, Read, reading, nobody, role_of, held_by, child_part, next_part}
-use Rattle.walk.specs.Reading.Part.{as_root, as_field, as_key, as_element, as_middle, as_entries}
+use Rattle.walk.specs.Reading.Part.{as_field}
 use Rattle.walk.specs.Handing.{hinting, wrapped, unwrap, with_hint, compares_names, hands_on, field_hint}
 use Rattle.walk.specs.Faults.{Typing, name_checks, wrap_checks, struct_checks, group_checks, refusals}
-use Rattle.walk.specs.Shape.{Made, raised, group_rows, shape}
-use Rattle.walk.specs.Shape.Items.{of_list, of_map}
+use Rattle.walk.specs.Shape.{raised, group_rows, shape}
+use Rattle.walk.specs.Shape.Items.{of_list}
 use Rattle.walk.specs.Walk.{Full, full_of, unless_refused}
 use Rattle.walk.specs.declared.role.Role.{Role}
 use Rattle.walk.specs.declared.role.Role.TheVariants.{Own as own}
@@ -35,7 +34,7 @@ use Rattle.convert.specs.Handed.{typing_of}
 use Rattle.walk.specs.Results.{Line, lines, shown_row}
 use Rattle.convert.specs.Outcome.{Outcome, Told, outcome, followed, within, within_all, checked, told_label, told_below, told_tree}
 use Rattle.convert.specs.Visit.{Input, Seats, gives_as}
-use Rattle.convert.specs.Own.{own_row, list_row, listed_if}
+use Rattle.convert.specs.Own.{own_row, listed_if}
 use Rattle.convert.specs.Walked.{next_leaf, field_told, field_as, own_role, gives_field, gives_all}
 use Rattle.convert.proofs.Trees.{count_plant}
 use Rattle.convert.proofs.Outcomes.{in_turn, at_group, length_lines}

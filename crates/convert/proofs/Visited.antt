@@ -74,7 +74,7 @@ module _ (s : Input) (i : ℕ) (c : Seat) (start : Cursor) where
       → Fields s i levels hint inner before mid (Ok cursor) → inner.row ≤ cursor.row
   within_past room h hint (hs, p) levels inner cursor before mid f =
       let w : Wrote s.names (gives_all s (i + 1) inner.leaf levels true (inside hs) h.root.below) inner.row (inner.leaf + leaf_count (spelled_by s.names h.root.below)) before mid cursor =
-      f h.root.top h.root.below h.root.after h.root.own_at hs p in
+      f h.root.top h.root.below h.root.after h.root.lies hs p in
       omega (arith, w.ends)
 
   module _ (before after : List ResultRow) (n : Annotation) (kind : here.kind ≡ group n) where

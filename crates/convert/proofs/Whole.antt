@@ -1,5 +1,5 @@
 -- The walk from the root.
-use Rattle.std.proofs.Common.{◌≡◌, ℕ, suc, ◌+◌, ◌*◌, ◌^◌, ◌<◌, ◌≤◌, max, Bool, true, false, ◌&&◌, eqb, List, [], ◌∷◌, ◌++◌, map, length, take, drop, Some, None, Ok, Err, Option, Result, sym, refl, ap, ◌∙◌, subst, ap₂, append-nil, arith}
+use Rattle.std.proofs.Common.{◌≡◌, ℕ, ◌+◌, ◌*◌, ◌≤◌, Bool, true, false, ◌&&◌, eqb, List, [], ◌∷◌, map, length, take, Some, Ok, Err, Result, sym, refl, ap, ◌∙◌, subst, ap₂, append-nil, arith}
 use lib.ListN.{length-map}
 use Rattle.std.proofs.lemmas.List.{length-take}
 use Rattle.std.proofs.lemmas.Bool.{and_parts}
@@ -12,8 +12,6 @@ use Rattle.schema.specs.declared.element.Kind.{Kind}
 use Rattle.schema.specs.declared.element.Kind.TheVariants.{Group as group, Leaf as leaf}
 use Rattle.schema.specs.declared.element.Leaf.{Leaf}
 use Rattle.schema.specs.declared.refusal.Refusal.{Refusal}
-use Rattle.schema.specs.Elements.{element_span}
-use Rattle.schema.specs.Posts.{shown_as}
 use Rattle.schema.specs.Rows.{IsFinished, is_none, named_inside, plain_group, root_kept}
 use Rattle.arrow.specs.declared.hint.HintRow.{HintRow}
 use Rattle.arrow.specs.declared.row.ResultRow.{ResultRow}
@@ -22,11 +20,11 @@ use Rattle.selection.specs.Sets.{in_flags}
 use Rattle.walk.specs.Forests.{height, relabel}
 use Rattle.walk.specs.Handing.{hinting}
 use Rattle.walk.specs.Hints.{Hint, hints_of, sole}
-use Rattle.walk.specs.Labels.{Numbered, numbered, numbered_as, shown_tree}
+use Rattle.walk.specs.Labels.{Numbered, shown_tree}
 use Rattle.walk.specs.Reading.{Read, by_annotation, nobody, reading}
 use Rattle.walk.specs.Reading.Part.{as_root}
 use Rattle.walk.specs.Faults.{Typing, refusals}
-use Rattle.walk.specs.Results.{Line, line_of, lines}
+use Rattle.walk.specs.Results.{line_of, lines}
 use Rattle.walk.specs.Shape.{base, shape}
 use Rattle.walk.specs.Walk.{Full, full_of, leaf_typing, unless_refused, walk_under}
 use Rattle.walk.specs.declared.levels.Levels.{Levels}
@@ -38,7 +36,7 @@ use Rattle.convert.specs.Handed.{Hinted, WholeHints, typing_of}
 use Rattle.convert.specs.Outcome.{Outcome, outcome, told_below, told_label, told_tree}
 use Rattle.convert.specs.Root.{Front, Walks, root_told}
 use Rattle.convert.specs.Table.{Rooted, Stands, element_at, kids, label}
-use Rattle.convert.specs.Visit.{Input, Meets, Seats, Wrote, gives_as}
+use Rattle.convert.specs.Visit.{Input, Seats, Wrote, gives_as}
 use Rattle.convert.specs.Walked.{HasHint, Ready, Visits, next_leaf}
 use Rattle.convert.proofs.Trees.{count_plant, read_here, sized}
 use Rattle.promise.proofs.Rows.{length_lines}

@@ -1,11 +1,11 @@
 -- What is written, as the outcome's rows.
-use Rattle.std.proofs.Common.{◌≡◌, ℕ, suc, ◌+◌, ◌-◌, ◌*◌, ◌^◌, ◌<◌, ◌≤◌, Bool, true, false, List, [], ◌∷◌, ◌++◌, map, length, get_or, take, drop, set, Ok, Err, sym, refl, ap, ◌∙◌, subst, append_assoc, arith, length-append}
+use Rattle.std.proofs.Common.{◌≡◌, ℕ, suc, ◌+◌, ◌-◌, ◌<◌, List, [], ◌∷◌, ◌++◌, map, length, take, set, Ok, sym, refl, ap, ◌∙◌, append_assoc, arith, length-append}
 use lib.Seq.{take-set-lt}
 use Rattle.std.proofs.lemmas.List.{append-nil, take-take, take_more_set, take-append-le, set-append_left, length-take-le}
 use Rattle.arrow.specs.declared.row.ResultRow.{ResultRow}
 use Rattle.walk.specs.Walk.{Full}
 use Rattle.convert.specs.declared.context.Cursor.{Cursor}
-use Rattle.walk.specs.Results.{Line, shown_row, line_of}
+use Rattle.walk.specs.Results.{shown_row, line_of}
 use Rattle.convert.specs.Outcome.{Outcome, within, followed}
 use Rattle.convert.specs.Visit.{Wrote}
 

@@ -1,8 +1,7 @@
 -- What the walk over a part of a schema gives: the first refusal, or the rows, flat.
-use Rattle.std.specs.Prelude.{◌≡◌, ℕ, suc, ◌+◌, Bool, true, false, cond, List, [], ◌∷◌, ◌++◌, map, length, Some, None, Ok, Err, Option, Result}
-use Rattle.tree.specs.Forest.{Forest, count}
+use Rattle.std.specs.Prelude.{ℕ, suc, Bool, true, false, List, [], ◌∷◌, ◌++◌, length, Ok, Err, Result}
+use Rattle.tree.specs.Forest.{Forest}
 use Rattle.tree.specs.Forest.Forest.{bare, plant}
-use Rattle.schema.specs.declared.element.Kind.{Kind}
 use Rattle.schema.specs.declared.refusal.Refusal.{Refusal}
 use Rattle.walk.specs.Forests.{relabel}
 use Rattle.walk.specs.Labels.{Numbered}

@@ -1,7 +1,7 @@
 -- The tables that the walk reads: the trees that lie in them, and the elements as the rules see them.
-use Rattle.std.specs.Prelude.{◌≡◌, ℕ, ◌+◌, ◌*◌, ◌^◌, ◌<◌, ◌≤◌, Bool, true, false, cond, List, [], ◌∷◌, ◌++◌, length, drop, slice_index_or}
+use Rattle.std.specs.Prelude.{◌≡◌, ℕ, ◌+◌, ◌≤◌, List, ◌++◌, length, drop, slice_index_or}
 use Rattle.tree.specs.Forest.{Forest, listing, count, Sized, Lists}
-use Rattle.tree.specs.Forest.Forest.{bare, plant}
+use Rattle.tree.specs.Forest.Forest.{plant}
 use Rattle.schema.specs.declared.element.Element.{Element}
 use Rattle.schema.specs.Elements.{element_span, empty}
 use Rattle.schema.specs.Posts.{shown_as}

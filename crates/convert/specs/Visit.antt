@@ -1,5 +1,5 @@
 -- What a visit of the code is told, answers and writes.
-use Rattle.std.specs.Prelude.{◌≡◌, ℕ, ◌+◌, Bool, true, false, List, [], ◌∷◌, ◌++◌, map, length, take, Some, None, Ok, Err, Option, Result}
+use Rattle.std.specs.Prelude.{◌≡◌, ℕ, ◌+◌, Bool, true, false, List, ◌++◌, map, length, take, Some, None, Ok, Err, Option, Result}
 use Rattle.tree.specs.Forest.{Forest}
 use Rattle.schema.specs.declared.refusal.Refusal.{Refusal}
 use Rattle.schema.specs.declared.element.Element.{Element}
@@ -16,7 +16,7 @@ use Rattle.convert.specs.declared.context.Cursor.{Cursor}
 use Rattle.convert.specs.declared.context.Seat.{Seat}
 use Rattle.convert.specs.Table.{label, kids}
 use Rattle.convert.specs.Handed.{Hinted, typing_of}
-use Rattle.walk.specs.Results.{Line, line_of}
+use Rattle.walk.specs.Results.{line_of}
 use Rattle.convert.specs.Outcome.{Outcome, Told, outcome, told_tree}
 
 -- the rows of an outcome stand in the table from `begin` on, and the next leaf is number `next`

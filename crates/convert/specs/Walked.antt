@@ -1,18 +1,16 @@
 -- What the walk gives below an element, and what the visits that call each other answer.
-use Rattle.std.specs.Prelude.{◌≡◌, ℕ, ◌+◌, ◌*◌, ◌^◌, ◌<◌, ◌≤◌, Bool, true, false, cond, List, [], ◌∷◌, ◌++◌, map, length, take, Some, None, Ok, Err, Option, Result}
+use Rattle.std.specs.Prelude.{◌≡◌, ℕ, ◌+◌, ◌*◌, ◌^◌, ◌<◌, ◌≤◌, Bool, true, false, cond, List, ◌++◌, map, length, take, Some, None, Ok, Option, Result}
 use Rattle.schema.specs.Elements.{element_span}
 use Rattle.tree.specs.Forest.{Forest, count, Lists, size_at}
 use Rattle.tree.specs.Forest.Forest.{bare, plant}
 use Rattle.schema.specs.declared.element.Element.{Element}
 use Rattle.schema.specs.declared.refusal.Refusal.{Refusal}
-use Rattle.arrow.specs.declared.hint.HintRow.{HintRow}
 use Rattle.arrow.specs.declared.row.ResultRow.{ResultRow}
-use Rattle.arrow.specs.Kinds.{hint_span}
 use Rattle.selection.specs.Sets.{in_flags}
 use Rattle.walk.specs.Forests.{height}
 use Rattle.walk.specs.Labels.{Numbered, is_leaf, leaf_count, numbered, or_required}
 use Rattle.walk.specs.Hints.{Hint, inside, sole}
-use Rattle.walk.specs.Reading.{Part, Holder, reading, nobody, by_annotation}
+use Rattle.walk.specs.Reading.{Holder, reading, nobody, by_annotation}
 use Rattle.walk.specs.Reading.Part.{as_field, as_key, as_element, as_middle, as_entries}
 use Rattle.walk.specs.Faults.{Typing}
 use Rattle.walk.specs.Shape.{Items}

@@ -2,7 +2,7 @@ use Rattle.std.proofs.Common.{◌≡◌, ℕ, ◌-◌, Bool, List, ◌++◌, len
 use Rattle.arrow.specs.declared.row.ResultRow.{ResultRow}
 use Rattle.promise.specs.Conversion.{Conversion, Converts, conversion, empty_row}
 use Rattle.promise.proofs.Kept.{promise_kept}
-use Rattle.convert.specs.Uncleared.{flags_after, rows_after}
+use Rattle.convert.specs.Uncleared.{rows_after}
 use Rattle.convert.proofs.Cleared.{converts}
 use Rattle.convert.proofs.convert.Goals as goal
 

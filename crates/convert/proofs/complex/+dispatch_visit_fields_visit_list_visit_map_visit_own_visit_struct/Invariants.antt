@@ -1,4 +1,4 @@
-use Rattle.std.proofs.Common.{◌+◌, ◌*◌, length}
+use Rattle.std.proofs.Common.{◌+◌, ◌*◌}
 use Rattle.tree.specs.Walk.{left}
 use Rattle.convert.specs.Table.{element_at}
 use Rattle.convert.specs.Visit.{read_by}

@@ -1,9 +1,5 @@
-use Rattle.std.proofs.Common.{◌≡◌, ℕ, ◌+◌, ◌<◌, ◌≤◌, Bool, true, false, cond, not, ◌&&◌, List, [], ◌∷◌, Some, None, Ok, Err, Option, sym, refl, ap, ◌∙◌, subst, ap₂, arith}
-use Rattle.tree.specs.Forest.{Forest}
+use Rattle.std.proofs.Common.{◌≡◌, ℕ, Bool, true, false, not, List, [], sym, refl, ap, ◌∙◌}
 use Rattle.schema.specs.Elements.{part}
-use Rattle.walk.specs.Forests.{trees}
-use Rattle.walk.specs.Labels.{is_repeated, or_required}
-use Rattle.walk.specs.Hints.{Hint, inside, sole, has_children}
 use Rattle.convert.specs.Visit.{read_by}
 use Rattle.convert.specs.Handed.{named_as}
 use Rattle.convert.proofs.Handing.{name_off, name_on}

@@ -1,9 +1,6 @@
-use Rattle.std.proofs.Common.{◌≡◌, ℕ, ◌+◌, ◌<◌, ◌≤◌, Bool, true, false, cond, not, ◌&&◌, List, [], ◌∷◌, Some, None, Ok, Err, Option, sym, refl, ap, ◌∙◌, subst, ap₂, arith}
-use Rattle.tree.specs.Forest.{Forest}
-use Rattle.schema.specs.Elements.{part}
+use Rattle.std.proofs.Common.{ℕ, true, false, [], sym, ap, ◌∙◌}
 use Rattle.walk.specs.Forests.{trees}
-use Rattle.walk.specs.Labels.{is_repeated, or_required}
-use Rattle.walk.specs.Hints.{Hint, inside, sole, has_children}
+use Rattle.walk.specs.Hints.{has_children}
 use Rattle.convert.specs.Visit.{read_by}
 use Rattle.convert.proofs.Handing.{struct_other, struct_by}
 use Rattle.convert.proofs.complex.check_struct.Goals as goal

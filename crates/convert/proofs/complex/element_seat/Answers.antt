@@ -1,8 +1,5 @@
-use Rattle.std.proofs.Common.{◌≡◌, ℕ, ◌+◌, ◌<◌, ◌≤◌, Bool, true, false, cond, not, ◌&&◌, List, [], ◌∷◌, Some, None, Option, sym, refl, ap, ◌∙◌, subst, ap₂, arith}
-use Rattle.tree.specs.Forest.{Forest}
-use Rattle.walk.specs.Forests.{trees, planted}
-use Rattle.walk.specs.Labels.{is_repeated, is_optional, or_required}
-use Rattle.walk.specs.Hints.{Hint, inside, sole, has_children, fits, any_struct}
+use Rattle.std.proofs.Common.{refl}
+use Rattle.walk.specs.Hints.{inside}
 use Rattle.convert.specs.Visit.{read_by}
 use Rattle.convert.proofs.Handing.{left_sole}
 use Rattle.convert.proofs.complex.element_seat.Goals as goal

@@ -1,9 +1,6 @@
-use Rattle.std.proofs.Common.{◌≡◌, ℕ, ◌+◌, ◌<◌, ◌≤◌, Bool, true, false, cond, not, ◌&&◌, List, [], ◌∷◌, Some, None, Ok, Err, Option, sym, refl, ap, ◌∙◌, subst, ap₂, arith}
+use Rattle.std.proofs.Common.{◌≡◌, Bool, true, false, cond, Some, refl, ◌∙◌}
 use Rattle.tree.specs.Forest.{Forest}
-use Rattle.schema.specs.Elements.{part}
-use Rattle.walk.specs.Forests.{trees}
-use Rattle.walk.specs.Labels.{is_repeated, or_required}
-use Rattle.walk.specs.Hints.{Hint, inside, sole, has_children}
+use Rattle.walk.specs.Hints.{Hint}
 use Rattle.convert.specs.Visit.{read_by}
 use Rattle.walk.specs.Walk.{hinted_list, list_type}
 use Rattle.walk.specs.Reading.Part.{as_field, as_key}

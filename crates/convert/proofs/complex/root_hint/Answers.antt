@@ -1,4 +1,4 @@
-use Rattle.std.proofs.Common.{true, length, sym, ap, ◌∙◌, arith, eqb-true}
+use Rattle.std.proofs.Common.{length, sym, ◌∙◌, eqb-true}
 use borrow.Author.Tests.{eqb-false}
 use Rattle.std.proofs.lemmas.List.{nil_from_length}
 use Rattle.convert.proofs.Whole.{no_first, first_hinted}

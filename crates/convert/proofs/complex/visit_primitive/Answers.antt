@@ -1,7 +1,5 @@
-use Rattle.std.proofs.Common.{◌≡◌, ℕ, ◌+◌, ◌<◌, ◌≤◌, Bool, true, false, not, ◌&&◌, List, [], ◌∷◌, Some, None, Ok, Err, Option, sym, refl, ap, ◌∙◌, subst, ap₂, arith}
-use Rattle.tree.specs.Forest.{Forest}
+use Rattle.std.proofs.Common.{◌+◌, Bool, not, ◌&&◌, Err, sym, refl, ap, ◌∙◌, subst}
 use Rattle.walk.specs.Labels.{is_repeated, or_required}
-use Rattle.walk.specs.Hints.{Hint, inside, sole}
 use Rattle.std.proofs.lemmas.Result.{err_from_is_err_and}
 use Rattle.arrow.specs.Convert.{converted_leaf}
 use Rattle.walk.specs.Handing.{unwrap}

@@ -1,5 +1,4 @@
-use Rattle.std.proofs.Common.{◌≡◌, ℕ, Some, None, Option, sym, refl, ap, ◌∙◌, subst, ap₂, arith}
-use Rattle.arrow.specs.Kinds.{hint_span}
+use Rattle.std.proofs.Common.{ℕ, Option, sym, subst}
 use Rattle.walk.specs.Hints.{inside}
 use Rattle.convert.specs.Handed.{Hinted, HintsLeft}
 use Rattle.convert.proofs.Handing.{first_left}

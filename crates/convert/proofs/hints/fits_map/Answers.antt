@@ -1,7 +1,5 @@
-use Rattle.std.proofs.Common.{◌≡◌, ℕ, Some, None, Option, sym, refl, ap, ◌∙◌, subst, ap₂, arith}
+use Rattle.std.proofs.Common.{◌∙◌}
 use Rattle.walk.specs.Hints.{any_map}
-use Rattle.convert.specs.Handed.{Sees}
-use Rattle.arrow.specs.declared.hint.HintRow.{HintRow}
 use Rattle.convert.proofs.Handing.{fits_none, fits_row}
 use Rattle.convert.proofs.hints.fits_map.Goals as goal
 

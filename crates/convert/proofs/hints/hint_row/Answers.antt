@@ -1,4 +1,4 @@
-use Rattle.std.proofs.Common.{◌≡◌, ℕ, Some, None, Option, sym, refl, ap, ◌∙◌, subst, ap₂, arith}
+use Rattle.std.proofs.Common.{ℕ, Option, subst, arith}
 use Rattle.convert.specs.Handed.{Hinted}
 use Rattle.convert.proofs.Handing.{sees_row, row_inside}
 use Rattle.convert.proofs.hints.hint_row.Goals as goal

@@ -1,7 +1,5 @@
-use Rattle.std.proofs.Common.{◌≡◌, ℕ, ◌+◌, ◌<◌, ◌≤◌, Bool, true, false, cond, not, ◌&&◌, List, [], ◌∷◌, Some, None, Option, sym, refl, ap, ◌∙◌, subst, ap₂, arith}
-use Rattle.tree.specs.Forest.{Forest}
-use Rattle.walk.specs.Forests.{trees, planted}
-use Rattle.walk.specs.Hints.{Hint, inside, sole, has_children, fits, any_struct}
+use Rattle.std.proofs.Common.{ℕ, Option, sym, ◌∙◌, subst}
+use Rattle.walk.specs.Hints.{inside, sole}
 use Rattle.convert.specs.Handed.{Hinted}
 use Rattle.convert.proofs.Handing.{over_none, over_by, left_sole}
 use Rattle.convert.proofs.hints.is_over_two.Goals as goal

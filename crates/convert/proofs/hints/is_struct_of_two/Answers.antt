@@ -1,7 +1,5 @@
-use Rattle.std.proofs.Common.{◌≡◌, ℕ, ◌+◌, ◌<◌, ◌≤◌, Bool, true, false, cond, not, ◌&&◌, List, [], ◌∷◌, Some, None, Option, sym, refl, ap, ◌∙◌, subst, ap₂, arith}
-use Rattle.tree.specs.Forest.{Forest}
-use Rattle.walk.specs.Forests.{trees, planted}
-use Rattle.walk.specs.Hints.{Hint, inside, sole, has_children, fits, any_struct}
+use Rattle.std.proofs.Common.{Bool, ◌&&◌, sym, ap, ◌∙◌, ap₂}
+use Rattle.walk.specs.Hints.{has_children, fits, any_struct}
 use Rattle.convert.proofs.Handing.{planted_none, planted_row, fits_row}
 use Rattle.convert.proofs.hints.is_struct_of_two.Goals as goal
 

@@ -1,4 +1,4 @@
-use Rattle.std.proofs.Common.{◌≡◌, ℕ, Some, None, Option, sym, refl, ap, ◌∙◌, subst, ap₂, arith}
+use Rattle.std.proofs.Common.{sym, ◌∙◌}
 use Rattle.convert.proofs.Handing.{kind_none, kind_list, kind_other}
 use Rattle.convert.proofs.hints.list_kind.Goals as goal
 

@@ -1,5 +1,4 @@
-use Rattle.std.proofs.Common.{◌≡◌, ℕ, Some, None, Option, sym, refl, ap, ◌∙◌, subst, ap₂, arith}
-use Rattle.walk.specs.Walk.{metadata_of, by_id}
+use Rattle.std.proofs.Common.{◌∙◌}
 use Rattle.convert.proofs.Handing.{metadata_none, metadata_row}
 use Rattle.convert.proofs.hints.metadata_of.Goals as goal
 

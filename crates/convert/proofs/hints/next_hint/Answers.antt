@@ -1,7 +1,6 @@
-use Rattle.std.proofs.Common.{◌≡◌, ℕ, Some, None, Option, sym, refl, ap, ◌∙◌, subst, ap₂, arith}
-use Rattle.arrow.specs.Kinds.{hint_span}
+use Rattle.std.proofs.Common.{ℕ, Some, Option, sym, subst}
 use Rattle.walk.specs.Hints.{others}
-use Rattle.convert.specs.Handed.{Hinted, HintsLeft}
+use Rattle.convert.specs.Handed.{HintsLeft}
 use Rattle.convert.proofs.Handing.{next_left}
 use Rattle.convert.proofs.hints.next_hint.Goals as goal
 

@@ -1,4 +1,4 @@
-use Rattle.std.proofs.Common.{◌≡◌, ℕ, Some, None, Option, sym, refl, ap, ◌∙◌, subst, ap₂, arith}
+use Rattle.std.proofs.Common.{sym, ◌∙◌}
 use Rattle.convert.proofs.Handing.{unwrapped_off, unwrapped_on, unwrapped_no}
 use Rattle.convert.proofs.hints.unwrap_hint.Goals as goal
 

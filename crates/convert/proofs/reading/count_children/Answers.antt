@@ -1,4 +1,4 @@
-use Rattle.std.proofs.Common.{◌≡◌, ◌∙◌}
+use Rattle.std.proofs.Common.{◌∙◌}
 use Rattle.schema.specs.Elements.{element_span}
 use Rattle.convert.proofs.Trees.{children_trees}
 use Rattle.convert.proofs.reading.count_children.Goals as goal

@@ -1,4 +1,4 @@
-use Rattle.std.proofs.Common.{◌≡◌, ℕ, ◌+◌, Bool, true, false, ◌||◌, [], sym, refl, ap, ◌∙◌, ap₂, arith}
+use Rattle.std.proofs.Common.{◌≡◌, ◌+◌, Bool, true, false, ◌||◌, [], sym, ap, ◌∙◌, ap₂, arith}
 use Rattle.schema.specs.Elements.{element_span}
 use Rattle.walk.specs.Forests.{trees}
 use Rattle.convert.specs.Table.{element_at}

@@ -1,11 +1,11 @@
-use Rattle.std.proofs.Common.{◌≡◌, ℕ, ◌+◌, Bool, [], sym, refl, ap, ◌∙◌, ap₂, arith}
+use Rattle.std.proofs.Common.{Bool, [], sym, ap, ◌∙◌, ap₂, arith}
 use Rattle.tree.specs.Forest.{count}
 use Rattle.tree.specs.Forest.Forest.{bare}
 use Rattle.schema.specs.Elements.{element_span}
 use Rattle.walk.specs.Reading.{one_child, names_element}
 use Rattle.convert.proofs.Trees.{rooted, inside}
 use Rattle.convert.proofs.Roles.{some_child}
-use Rattle.convert.proofs.Shapes.{AsList, listed_shape, child_stands, takes_leaf, takes_one, takes_several}
+use Rattle.convert.proofs.Shapes.{listed_shape, child_stands, takes_leaf, takes_one, takes_several}
 use Rattle.convert.proofs.reading.is_element.Goals as goal
 
 pub bounds-elements-child : goal.bounds-elements-child

@@ -1,9 +1,7 @@
-use Rattle.std.proofs.Common.{◌≡◌, ℕ, ◌+◌, Bool, true, false, sym, refl, ap, ◌∙◌, ap₂, arith}
-use Rattle.schema.specs.declared.element.Element.{Element}
+use Rattle.std.proofs.Common.{Bool, sym, ap, ◌∙◌, ap₂, arith}
 use Rattle.schema.specs.Elements.{element_span}
 use Rattle.walk.specs.Labels.{or_required}
 use Rattle.walk.specs.Reading.{list_child}
-use Rattle.convert.specs.Table.{element_at}
 use Rattle.convert.proofs.Trees.{below, read_here}
 use Rattle.convert.proofs.Roles.{again, list_several, list_one, some_child}
 use Rattle.convert.proofs.reading.list_role.Goals as goal

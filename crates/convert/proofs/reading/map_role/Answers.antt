@@ -1,7 +1,6 @@
-use Rattle.std.proofs.Common.{◌≡◌, ℕ, ◌+◌, Bool, true, false, not, ◌&&◌, sym, refl, ap, ◌∙◌, ap₂, arith}
+use Rattle.std.proofs.Common.{◌+◌, Bool, not, ◌&&◌, sym, ap, ◌∙◌, ap₂, arith}
 use Rattle.schema.specs.declared.element.Kind.{Kind}
 use Rattle.schema.specs.Elements.{element_span}
-use Rattle.walk.specs.Forests.{trees}
 use Rattle.walk.specs.Labels.{is_leaf, or_required}
 use Rattle.convert.specs.Table.{element_at}
 use Rattle.convert.proofs.Trees.{below, read_here, first_rooted}

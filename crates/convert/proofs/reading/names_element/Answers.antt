@@ -1,4 +1,4 @@
-use Rattle.std.proofs.Common.{◌≡◌, sym, refl, ap, ◌∙◌, ap₂}
+use Rattle.std.proofs.Common.{sym, ◌∙◌}
 use Rattle.convert.proofs.Names.{tuple_short, tuple_second, tuple_first}
 use Rattle.convert.proofs.reading.names_element.Goals as goal
 

@@ -1,7 +1,5 @@
-use Rattle.std.proofs.Common.{◌≡◌, ℕ, ◌+◌, ◌<◌, ◌≤◌, Bool, true, false, cond, not, ◌&&◌, List, [], ◌∷◌, Some, None, Ok, Err, Option, sym, refl, ap, ◌∙◌, subst, ap₂, arith}
-use Rattle.tree.specs.Forest.{Forest}
+use Rattle.std.proofs.Common.{sym, ◌∙◌, arith}
 use Rattle.walk.specs.Labels.{is_repeated, or_required}
-use Rattle.walk.specs.Hints.{Hint, inside, sole}
 use Rattle.convert.proofs.Leaves.{struct_alone, struct_listed, at_again, at_once}
 use Rattle.convert.proofs.rows.close_struct.Goals as goal
 

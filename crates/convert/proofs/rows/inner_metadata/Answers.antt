@@ -1,7 +1,5 @@
-use Rattle.std.proofs.Common.{◌≡◌, ℕ, ◌+◌, ◌<◌, ◌≤◌, Bool, true, false, List, [], ◌∷◌, Some, None, Ok, Err, Option, sym, refl, ap, ◌∙◌, subst, ap₂, arith}
-use Rattle.tree.specs.Forest.{Forest}
-use Rattle.walk.specs.Labels.{or_required}
-use Rattle.walk.specs.Hints.{Hint, inside, sole}
+use Rattle.std.proofs.Common.{Bool, sym, ap, ◌∙◌}
+use Rattle.walk.specs.Hints.{inside, sole}
 use Rattle.convert.specs.Own.{inner_of}
 use Rattle.convert.proofs.Handing.{left_sole}
 use Rattle.convert.proofs.rows.inner_metadata.Goals as goal

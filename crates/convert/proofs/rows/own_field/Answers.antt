@@ -1,10 +1,7 @@
-use Rattle.std.proofs.Common.{◌≡◌, ℕ, ◌+◌, ◌<◌, ◌≤◌, Bool, true, false, List, [], ◌∷◌, Some, None, Ok, Err, Option, sym, refl, ap, ◌∙◌, subst, ap₂, arith}
-use Rattle.tree.specs.Forest.{Forest}
+use Rattle.std.proofs.Common.{false, sym, ap, ◌∙◌}
 use Rattle.walk.specs.Labels.{or_required}
-use Rattle.walk.specs.Hints.{Hint, inside, sole}
 use Rattle.arrow.specs.declared.row.Metadata.{Metadata}
-use Rattle.arrow.specs.declared.row.Field.{Field}
-use Rattle.convert.specs.Own.{own_field, outer_field}
+use Rattle.convert.specs.Own.{outer_field}
 use Rattle.convert.proofs.Seated.{own_inner, own_outer}
 use Rattle.convert.proofs.rows.own_field.Goals as goal
 

@@ -1,7 +1,5 @@
-use Rattle.std.proofs.Common.{◌≡◌, ℕ, ◌+◌, ◌<◌, ◌≤◌, Bool, true, false, not, ◌&&◌, List, [], ◌∷◌, Some, None, Ok, Err, Option, sym, refl, ap, ◌∙◌, subst, ap₂, arith}
-use Rattle.tree.specs.Forest.{Forest}
-use Rattle.walk.specs.Labels.{is_repeated, or_required}
-use Rattle.walk.specs.Hints.{Hint, inside, sole}
+use Rattle.std.proofs.Common.{◌+◌, sym, ◌∙◌, arith}
+use Rattle.walk.specs.Labels.{or_required}
 use Rattle.convert.proofs.Leaves.{leaf_alone, leaf_listed}
 use Rattle.convert.proofs.rows.write_leaf.Goals as goal
 

@@ -1,5 +1,6 @@
 // Conversions at the limits of schemas and tables, and what refused ones leave.
 #![tactic(auto)]
+
 use arrow::{ArrowType, Field, HintRow, Metadata, ResultRow, TextPlace};
 use convert::{HintSchema, convert};
 use odd_leaves::OddLeaves;

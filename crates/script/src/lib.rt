@@ -1,5 +1,6 @@
 // Scripts that draft schemas: one command a line, and a printed answer to each.
 #![tactic(auto)]
+
 mod command;
 mod hints;
 mod run;

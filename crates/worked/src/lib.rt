@@ -1,5 +1,6 @@
 // Worked examples at the limits, as tests.
 #![tactic(auto)]
+
 #[cfg(test)]
 mod drafting;
 #[cfg(test)]

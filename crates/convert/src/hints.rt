@@ -166,6 +166,7 @@ fn by_id(field_id: Option<i32>) -> Metadata
 }
 
 // A field has the hint's metadata number, or without a hint the field id.
+#[tactic(auto, using(crate::proofs::Handing::metadata_row, crate::proofs::Handing::metadata_none))]
 pub(crate) fn metadata_of(hints: &[HintRow], hint: Option<usize>, field_id: Option<i32>) -> Metadata
     ensures { (bytes : List ℕ) (hs : Forest Hint) → Hinted hints.now bytes hint hs → result ≡ metadata_of hs field_id }
 {

@@ -55,7 +55,7 @@ plain_row r = record { kind = kind_told r.leaf r.entries (nesting r.data_type); 
 abbrev pub shown_row : List ℕ → ResultRow → Full
 shown_row names r = record {
   shaped = record {
-    row = plain_row r;
+    row = record { kind = kind_told r.leaf r.entries (nesting r.data_type); levels = record { rep = r.rep_level; def = r.def_level }; nullable = r.nullable };
     name = part names r.field.name;
     field_null = r.field.nullable;
     entries = entries_name names r.entries;

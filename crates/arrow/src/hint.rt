@@ -23,13 +23,9 @@ pub struct HintRow {
 impl Row for HintRow {
     const MOST: usize = 4096;
 
-    ghost most = { 4096 };
+    ghost MOST = { 4096 };
 
     ghost span = { hint_span };
-
-    fn most_rows() -> usize {
-        Self::MOST
-    }
 
     fn size(&self) -> usize {
         self.size

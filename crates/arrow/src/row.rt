@@ -75,13 +75,9 @@ impl ResultRow {
 impl Row for ResultRow {
     const MOST: usize = 8192;
 
-    ghost most = { 8192 };
+    ghost MOST = { 8192 };
 
     ghost span = { row_span };
-
-    fn most_rows() -> usize {
-        Self::MOST
-    }
 
     fn size(&self) -> usize {
         self.size

@@ -88,13 +88,9 @@ impl Element {
 impl Row for Element {
     const MOST: usize = 4096;
 
-    ghost most = { 4096 };
+    ghost MOST = { 4096 };
 
     ghost span = { element_span };
-
-    fn most_rows() -> usize {
-        Self::MOST
-    }
 
     fn size(&self) -> usize {
         self.size

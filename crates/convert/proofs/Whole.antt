@@ -78,9 +78,7 @@ root_read hints x below e =
 
 plain_none : (k : Kind) → plain_group k ≡ true → k ≡ group None
 plain_none (group None) e = refl
-plain_none (group (Some a.List)) e = absurd (let z : ◌≡◌ {A = ℕ} 0 1 = cc in omega arith)
-plain_none (group (Some a.Map)) e = absurd (let z : ◌≡◌ {A = ℕ} 0 1 = cc in omega arith)
-plain_none (group (Some a.MapKeyValue)) e = absurd (let z : ◌≡◌ {A = ℕ} 0 1 = cc in omega arith)
+plain_none (group (Some how)) e = absurd (let z : ◌≡◌ {A = ℕ} 0 1 = cc in omega arith)
 plain_none (leaf l) e = absurd (let z : ◌≡◌ {A = ℕ} 0 1 = cc in omega arith)
 
 root_plain : (bytes : ℕ) (e : Element) → root_kept bytes e ≡ true → e.kind ≡ group None

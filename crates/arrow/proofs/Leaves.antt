@@ -22,7 +22,7 @@ use Rattle.arrow.specs.declared.hint.HintRow.{HintRow}
 use Rattle.arrow.specs.Kinds.{hint_span}
 use Rattle.arrow.specs.Same.{meaning}
 use Rattle.arrow.specs.HintTrees.{empty_hint}
-use Rattle.arrow.specs.Annotations.{Annotation, annotation, first_told, by_converted, plain, unknown, string, enum, json, bson, uuid, float16, date, interval, nested, decimal, integer, time, timestamp}
+use Rattle.arrow.specs.Annotations.{Annotation, annotation, first_told, converted_told, by_converted, plain, unknown, string, enum, json, bson, uuid, float16, date, interval, nested, decimal, integer, time, timestamp}
 use Rattle.arrow.specs.Table.{Answer, unit_of, zone_by, int_on_32, int_on_64, time_on_32, time_on_64, tellable, decimal_128, decimal_256, decimal_by_length, at_length, row, row_of, column, known, leaf_type}
 use Rattle.arrow.specs.Hints.{view, is_dictionary, only_child, told, takes, kept, hinted, hinted_by}
 use Rattle.arrow.specs.Convert.{unit_fixed, under_hint, if_typed, converted_leaf, typed_under}
@@ -186,7 +186,7 @@ own_plain f own e =
 
 -- Decimals.
 
-logical_decimal : (t : LogicalType) (n : Annotation) (s d : ℤ) (x : ℤ × ℤ) (cv : ConvertedType) → annotated (Some t) cv s d ≡ Some x → first_told (Some t) n ≡ decimal x.0 x.1
+logical_decimal : (t : LogicalType) (n : Annotation) (s d : ℤ) (x : ℤ × ℤ) (cv : Option ConvertedType) → annotated (Some t) cv s d ≡ Some x → first_told (Some t) n ≡ decimal x.0 x.1
 logical_decimal l.Unknown n s d x cv e = absurd (let q : ◌≡◌ {A = ℕ} 0 1 = cc in omega arith)
 logical_decimal l.String n s d x cv e = absurd (let q : ◌≡◌ {A = ℕ} 0 1 = cc in omega arith)
 logical_decimal l.Enum n s d x cv e = absurd (let q : ◌≡◌ {A = ℕ} 0 1 = cc in omega arith)
@@ -200,8 +200,7 @@ logical_decimal (l.Integer w g) n s d x cv e = absurd (let q : ◌≡◌ {A = �
 logical_decimal (l.Time z u) n s d x cv e = absurd (let q : ◌≡◌ {A = ℕ} 0 1 = cc in omega arith)
 logical_decimal (l.Timestamp z u) n s d x cv e = absurd (let q : ◌≡◌ {A = ℕ} 0 1 = cc in omega arith)
 
-converted_decimal : (cv : ConvertedType) (s d : ℤ) (x : ℤ × ℤ) → annotated None cv s d ≡ Some x → by_converted s d cv ≡ decimal x.0 x.1
-converted_decimal c.None s d x e = absurd (let q : ◌≡◌ {A = ℕ} 0 1 = cc in omega arith)
+converted_decimal : (cv : ConvertedType) (s d : ℤ) (x : ℤ × ℤ) → annotated None (Some cv) s d ≡ Some x → by_converted s d cv ≡ decimal x.0 x.1
 converted_decimal c.Utf8 s d x e = absurd (let q : ◌≡◌ {A = ℕ} 0 1 = cc in omega arith)
 converted_decimal c.Map s d x e = absurd (let q : ◌≡◌ {A = ℕ} 0 1 = cc in omega arith)
 converted_decimal c.MapKeyValue s d x e = absurd (let q : ◌≡◌ {A = ℕ} 0 1 = cc in omega arith)
@@ -225,9 +224,10 @@ converted_decimal c.Json s d x e = absurd (let q : ◌≡◌ {A = ℕ} 0 1 = cc 
 converted_decimal c.Bson s d x e = absurd (let q : ◌≡◌ {A = ℕ} 0 1 = cc in omega arith)
 converted_decimal c.Interval s d x e = absurd (let q : ◌≡◌ {A = ℕ} 0 1 = cc in omega arith)
 
-annotated_decimal : (o : Option LogicalType) (cv : ConvertedType) (s d : ℤ) (x : ℤ × ℤ) → annotated o cv s d ≡ Some x → first_told o (by_converted s d cv) ≡ decimal x.0 x.1
-annotated_decimal (Some t) cv s d x e = logical_decimal t (by_converted s d cv) s d x cv e
-annotated_decimal None cv s d x e = converted_decimal cv s d x e
+annotated_decimal : (o : Option LogicalType) (cv : Option ConvertedType) (s d : ℤ) (x : ℤ × ℤ) → annotated o cv s d ≡ Some x → first_told o (converted_told s d cv) ≡ decimal x.0 x.1
+annotated_decimal (Some t) cv s d x e = logical_decimal t (converted_told s d cv) s d x cv e
+annotated_decimal None (Some cv) s d x e = converted_decimal cv s d x e
+annotated_decimal None None s d x e = absurd (let q : ◌≡◌ {A = ℕ} 0 1 = cc in omega arith)
 
 -- 1 ≤ d ≤ 76 and 0 ≤ s ≤ d
 room : (s d : ℤ) → le_z (pos 1) d ≡ true → le_z d (pos 76) ≡ true → le_z (pos 0) s ≡ true → le_z s d ≡ true → tellable s d ≡ true

@@ -41,7 +41,6 @@ by_logical (l.Timestamp z u) = timestamp z u
 
 -- a converted DECIMAL has the leaf's own scale and precision
 abbrev pub by_converted : ℤ → ℤ → ConvertedType → Annotation
-by_converted s p c.None = plain
 by_converted s p c.Utf8 = string
 by_converted s p c.Map = nested
 by_converted s p c.MapKeyValue = nested
@@ -65,9 +64,14 @@ by_converted s p c.Json = json
 by_converted s p c.Bson = bson
 by_converted s p c.Interval = interval
 
+-- without a converted type, a leaf has no annotation of the older kind
+abbrev pub converted_told : ℤ → ℤ → Option ConvertedType → Annotation
+converted_told s p (Some c) = by_converted s p c
+converted_told s p None = plain
+
 abbrev pub first_told : Option LogicalType → Annotation → Annotation
 first_told (Some t) n = by_logical t
 first_told None n = n
 
 abbrev pub annotation : Leaf → Annotation
-annotation f = first_told f.logical (by_converted f.scale f.precision f.converted)
+annotation f = first_told f.logical (converted_told f.scale f.precision f.converted)

@@ -225,7 +225,7 @@ fn from_int32(leaf: &Leaf) -> Option<ArrowType>
     ensures { result ≡ (row_of leaf.now).0 }
 {
     match (leaf.logical, leaf.converted) {
-        (None, ConvertedType::None) => Some(ArrowType::Int32),
+        (None, None) => Some(ArrowType::Int32),
         (
             Some(
                 LogicalType::Integer {
@@ -249,15 +249,15 @@ fn from_int32(leaf: &Leaf) -> Option<ArrowType>
             ParquetTimeUnit::Millis => Some(ArrowType::Time32(TimeUnit::Millisecond)),
             _ => None,
         },
-        (None, ConvertedType::UInt8) => Some(ArrowType::UInt8),
-        (None, ConvertedType::UInt16) => Some(ArrowType::UInt16),
-        (None, ConvertedType::UInt32) => Some(ArrowType::UInt32),
-        (None, ConvertedType::Int8) => Some(ArrowType::Int8),
-        (None, ConvertedType::Int16) => Some(ArrowType::Int16),
-        (None, ConvertedType::Int32) => Some(ArrowType::Int32),
-        (None, ConvertedType::Date) => Some(ArrowType::Date32),
-        (None, ConvertedType::TimeMillis) => Some(ArrowType::Time32(TimeUnit::Millisecond)),
-        (None, ConvertedType::Decimal) => decimal_128_type(leaf.scale, leaf.precision),
+        (None, Some(ConvertedType::UInt8)) => Some(ArrowType::UInt8),
+        (None, Some(ConvertedType::UInt16)) => Some(ArrowType::UInt16),
+        (None, Some(ConvertedType::UInt32)) => Some(ArrowType::UInt32),
+        (None, Some(ConvertedType::Int8)) => Some(ArrowType::Int8),
+        (None, Some(ConvertedType::Int16)) => Some(ArrowType::Int16),
+        (None, Some(ConvertedType::Int32)) => Some(ArrowType::Int32),
+        (None, Some(ConvertedType::Date)) => Some(ArrowType::Date32),
+        (None, Some(ConvertedType::TimeMillis)) => Some(ArrowType::Time32(TimeUnit::Millisecond)),
+        (None, Some(ConvertedType::Decimal)) => decimal_128_type(leaf.scale, leaf.precision),
         _ => None,
     }
 }
@@ -266,7 +266,7 @@ fn from_int64(leaf: &Leaf) -> Option<ArrowType>
     ensures { result ≡ (row_of leaf.now).1 }
 {
     match (leaf.logical, leaf.converted) {
-        (None, ConvertedType::None) => Some(ArrowType::Int64),
+        (None, None) => Some(ArrowType::Int64),
         (
             Some(
                 LogicalType::Integer {
@@ -304,17 +304,17 @@ fn from_int64(leaf: &Leaf) -> Option<ArrowType>
                 Zone::Absent
             },
         )),
-        (None, ConvertedType::Int64) => Some(ArrowType::Int64),
-        (None, ConvertedType::UInt64) => Some(ArrowType::UInt64),
-        (None, ConvertedType::TimeMicros) => Some(ArrowType::Time64(TimeUnit::Microsecond)),
-        (None, ConvertedType::TimestampMillis) => {
+        (None, Some(ConvertedType::Int64)) => Some(ArrowType::Int64),
+        (None, Some(ConvertedType::UInt64)) => Some(ArrowType::UInt64),
+        (None, Some(ConvertedType::TimeMicros)) => Some(ArrowType::Time64(TimeUnit::Microsecond)),
+        (None, Some(ConvertedType::TimestampMillis)) => {
             Some(ArrowType::Timestamp(TimeUnit::Millisecond, Zone::Utc))
         }
-        (None, ConvertedType::TimestampMicros) => {
+        (None, Some(ConvertedType::TimestampMicros)) => {
             Some(ArrowType::Timestamp(TimeUnit::Microsecond, Zone::Utc))
         }
         (Some(LogicalType::Decimal { scale, precision }), _) => decimal_128_type(scale, precision),
-        (None, ConvertedType::Decimal) => decimal_128_type(leaf.scale, leaf.precision),
+        (None, Some(ConvertedType::Decimal)) => decimal_128_type(leaf.scale, leaf.precision),
         _ => None,
     }
 }
@@ -327,13 +327,13 @@ fn from_byte_array(leaf: &Leaf) -> Option<ArrowType>
         (Some(LogicalType::Json), _) => Some(ArrowType::Utf8),
         (Some(LogicalType::Bson), _) => Some(ArrowType::Binary),
         (Some(LogicalType::Enum), _) => Some(ArrowType::Binary),
-        (None, ConvertedType::None) => Some(ArrowType::Binary),
-        (None, ConvertedType::Json) => Some(ArrowType::Utf8),
-        (None, ConvertedType::Bson) => Some(ArrowType::Binary),
-        (None, ConvertedType::Enum) => Some(ArrowType::Binary),
-        (None, ConvertedType::Utf8) => Some(ArrowType::Utf8),
+        (None, None) => Some(ArrowType::Binary),
+        (None, Some(ConvertedType::Json)) => Some(ArrowType::Utf8),
+        (None, Some(ConvertedType::Bson)) => Some(ArrowType::Binary),
+        (None, Some(ConvertedType::Enum)) => Some(ArrowType::Binary),
+        (None, Some(ConvertedType::Utf8)) => Some(ArrowType::Utf8),
         (Some(LogicalType::Decimal { scale, precision }), _) => decimal_type(scale, precision),
-        (None, ConvertedType::Decimal) => decimal_type(leaf.scale, leaf.precision),
+        (None, Some(ConvertedType::Decimal)) => decimal_type(leaf.scale, leaf.precision),
         _ => None,
     }
 }
@@ -345,11 +345,11 @@ fn from_fixed_len_byte_array(leaf: &Leaf) -> Option<ArrowType>
         (Some(LogicalType::Decimal { scale, precision }), _) => {
             decimal_of_length(leaf.type_length, scale, precision)
         }
-        (None, ConvertedType::Decimal) => {
+        (None, Some(ConvertedType::Decimal)) => {
             decimal_of_length(leaf.type_length, leaf.scale, leaf.precision)
         }
         // nothing tells the unit of an interval: a hint may
-        (None, ConvertedType::Interval) => {
+        (None, Some(ConvertedType::Interval)) => {
             if leaf.type_length == 12 {
                 Some(ArrowType::Interval(IntervalUnit::DayTime))
             } else {

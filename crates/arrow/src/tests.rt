@@ -276,47 +276,47 @@ const BY_LOGICAL: [(P, i32, L, Option<A>); 55] = [
 ];
 
 // A leaf by its physical type, length and converted type, with the scale 2 and the precision 9.
-const BY_CONVERTED: [(P, i32, C, Option<A>); 40] = [
-    (P::Int32, 0, C::None, Some(A::Int32)),
-    (P::Int32, 0, C::UInt8, Some(A::UInt8)),
-    (P::Int32, 0, C::UInt16, Some(A::UInt16)),
-    (P::Int32, 0, C::UInt32, Some(A::UInt32)),
-    (P::Int32, 0, C::Int8, Some(A::Int8)),
-    (P::Int32, 0, C::Int16, Some(A::Int16)),
-    (P::Int32, 0, C::Int32, Some(A::Int32)),
-    (P::Int32, 0, C::Date, Some(A::Date32)),
-    (P::Int32, 0, C::TimeMillis, Some(TIME32)),
-    (P::Int32, 0, C::Decimal, Some(A::Decimal128(9, 2))),
-    (P::Int32, 0, C::Utf8, None),
-    (P::Int32, 0, C::List, None),
-    (P::Int64, 0, C::None, Some(A::Int64)),
-    (P::Int64, 0, C::Int64, Some(A::Int64)),
-    (P::Int64, 0, C::UInt64, Some(A::UInt64)),
-    (P::Int64, 0, C::TimeMicros, Some(TIME64)),
-    (P::Int64, 0, C::TimestampMillis, Some(MILLI_UTC)),
-    (P::Int64, 0, C::TimestampMicros, Some(MICRO_UTC)),
-    (P::Int64, 0, C::Decimal, Some(A::Decimal128(9, 2))),
-    (P::Int64, 0, C::Date, None),
-    (P::Int64, 0, C::Map, None),
-    (BYTES, 0, C::None, Some(A::Binary)),
-    (BYTES, 0, C::Json, Some(A::Utf8)),
-    (BYTES, 0, C::Bson, Some(A::Binary)),
-    (BYTES, 0, C::Enum, Some(A::Binary)),
-    (BYTES, 0, C::Utf8, Some(A::Utf8)),
-    (BYTES, 0, C::Decimal, Some(A::Decimal128(9, 2))),
-    (BYTES, 0, C::Int8, None),
-    (BYTES, 0, C::MapKeyValue, None),
-    (FIXED, 16, C::Decimal, Some(A::Decimal128(9, 2))),
-    (FIXED, 17, C::Decimal, Some(A::Decimal256(9, 2))),
-    (FIXED, 33, C::Decimal, None),
-    (FIXED, 12, C::Interval, Some(DAY_TIME)),
-    (FIXED, 11, C::Interval, None),
-    (FIXED, 7, C::None, Some(A::FixedSizeBinary(7))),
-    (FIXED, -1, C::Utf8, Some(A::FixedSizeBinary(-1))),
-    (P::Boolean, 0, C::None, Some(A::Boolean)),
-    (P::Int96, 0, C::None, Some(NANO)),
-    (P::Float, 0, C::None, Some(A::Float32)),
-    (P::Double, 0, C::None, Some(A::Float64)),
+const BY_CONVERTED: [(P, i32, Option<C>, Option<A>); 40] = [
+    (P::Int32, 0, None, Some(A::Int32)),
+    (P::Int32, 0, Some(C::UInt8), Some(A::UInt8)),
+    (P::Int32, 0, Some(C::UInt16), Some(A::UInt16)),
+    (P::Int32, 0, Some(C::UInt32), Some(A::UInt32)),
+    (P::Int32, 0, Some(C::Int8), Some(A::Int8)),
+    (P::Int32, 0, Some(C::Int16), Some(A::Int16)),
+    (P::Int32, 0, Some(C::Int32), Some(A::Int32)),
+    (P::Int32, 0, Some(C::Date), Some(A::Date32)),
+    (P::Int32, 0, Some(C::TimeMillis), Some(TIME32)),
+    (P::Int32, 0, Some(C::Decimal), Some(A::Decimal128(9, 2))),
+    (P::Int32, 0, Some(C::Utf8), None),
+    (P::Int32, 0, Some(C::List), None),
+    (P::Int64, 0, None, Some(A::Int64)),
+    (P::Int64, 0, Some(C::Int64), Some(A::Int64)),
+    (P::Int64, 0, Some(C::UInt64), Some(A::UInt64)),
+    (P::Int64, 0, Some(C::TimeMicros), Some(TIME64)),
+    (P::Int64, 0, Some(C::TimestampMillis), Some(MILLI_UTC)),
+    (P::Int64, 0, Some(C::TimestampMicros), Some(MICRO_UTC)),
+    (P::Int64, 0, Some(C::Decimal), Some(A::Decimal128(9, 2))),
+    (P::Int64, 0, Some(C::Date), None),
+    (P::Int64, 0, Some(C::Map), None),
+    (BYTES, 0, None, Some(A::Binary)),
+    (BYTES, 0, Some(C::Json), Some(A::Utf8)),
+    (BYTES, 0, Some(C::Bson), Some(A::Binary)),
+    (BYTES, 0, Some(C::Enum), Some(A::Binary)),
+    (BYTES, 0, Some(C::Utf8), Some(A::Utf8)),
+    (BYTES, 0, Some(C::Decimal), Some(A::Decimal128(9, 2))),
+    (BYTES, 0, Some(C::Int8), None),
+    (BYTES, 0, Some(C::MapKeyValue), None),
+    (FIXED, 16, Some(C::Decimal), Some(A::Decimal128(9, 2))),
+    (FIXED, 17, Some(C::Decimal), Some(A::Decimal256(9, 2))),
+    (FIXED, 33, Some(C::Decimal), None),
+    (FIXED, 12, Some(C::Interval), Some(DAY_TIME)),
+    (FIXED, 11, Some(C::Interval), None),
+    (FIXED, 7, None, Some(A::FixedSizeBinary(7))),
+    (FIXED, -1, Some(C::Utf8), Some(A::FixedSizeBinary(-1))),
+    (P::Boolean, 0, None, Some(A::Boolean)),
+    (P::Int96, 0, None, Some(NANO)),
+    (P::Float, 0, None, Some(A::Float32)),
+    (P::Double, 0, None, Some(A::Float64)),
 ];
 
 // A leaf of 12 bytes, a hint, and what the leaf is under it.
@@ -392,63 +392,68 @@ const HINTED_LOGICAL: [(P, L, A, A); 23] = [
 ];
 
 // The same, by its converted type.
-const HINTED_CONVERTED: [(P, C, A, A); 26] = [
-    (P::Int32, C::None, MILLI, MILLI),
-    (P::Int64, C::None, NANO_CET, NANO_CET),
+const HINTED_CONVERTED: [(P, Option<C>, A, A); 26] = [
+    (P::Int32, None, MILLI, MILLI),
+    (P::Int64, None, NANO_CET, NANO_CET),
     (
         P::Int32,
-        C::None,
+        None,
         A::Time32(TimeUnit::Second),
         A::Time32(TimeUnit::Second),
     ),
     (
         P::Int32,
-        C::None,
+        None,
         A::Time32(TimeUnit::Nanosecond),
         A::Time32(TimeUnit::Nanosecond),
     ),
-    (P::Int32, C::None, TIME64, A::Int32),
-    (P::Int64, C::None, TIME64, TIME64),
+    (P::Int32, None, TIME64, A::Int32),
+    (P::Int64, None, TIME64, TIME64),
     (
         P::Int64,
-        C::None,
+        None,
         A::Duration(TimeUnit::Second),
         A::Duration(TimeUnit::Second),
     ),
-    (P::Int64, C::None, A::Date64, A::Date64),
-    (P::Int32, C::Date, A::Date64, A::Date64),
-    (P::Int32, C::TimeMillis, A::Time32(TimeUnit::Second), TIME32),
-    (P::Int96, C::None, SECOND, SECOND),
-    (P::Int96, C::None, MILLI, MILLI),
-    (P::Int96, C::None, MICRO, MICRO),
-    (P::Int96, C::None, MILLI_CET, MILLI_CET),
-    (P::Int96, C::None, NANO_CET, NANO_CET),
-    (P::Int96, C::None, A::Date64, NANO),
-    (BYTES, C::None, A::LargeBinary, A::LargeBinary),
-    (BYTES, C::None, A::BinaryView, A::BinaryView),
-    (BYTES, C::None, A::Utf8, A::Utf8),
-    (BYTES, C::None, A::LargeUtf8, A::LargeUtf8),
-    (BYTES, C::None, A::Utf8View, A::Utf8View),
+    (P::Int64, None, A::Date64, A::Date64),
+    (P::Int32, Some(C::Date), A::Date64, A::Date64),
+    (
+        P::Int32,
+        Some(C::TimeMillis),
+        A::Time32(TimeUnit::Second),
+        TIME32,
+    ),
+    (P::Int96, None, SECOND, SECOND),
+    (P::Int96, None, MILLI, MILLI),
+    (P::Int96, None, MICRO, MICRO),
+    (P::Int96, None, MILLI_CET, MILLI_CET),
+    (P::Int96, None, NANO_CET, NANO_CET),
+    (P::Int96, None, A::Date64, NANO),
+    (BYTES, None, A::LargeBinary, A::LargeBinary),
+    (BYTES, None, A::BinaryView, A::BinaryView),
+    (BYTES, None, A::Utf8, A::Utf8),
+    (BYTES, None, A::LargeUtf8, A::LargeUtf8),
+    (BYTES, None, A::Utf8View, A::Utf8View),
     (
         FIXED,
-        C::Interval,
+        Some(C::Interval),
         A::Interval(IntervalUnit::YearMonth),
         A::Interval(IntervalUnit::YearMonth),
     ),
     (
         FIXED,
-        C::Interval,
+        Some(C::Interval),
         A::Interval(IntervalUnit::DayTime),
         A::Interval(IntervalUnit::DayTime),
     ),
     (
         FIXED,
-        C::Interval,
+        Some(C::Interval),
         A::Interval(IntervalUnit::MonthDayNano),
         A::Interval(IntervalUnit::MonthDayNano),
     ),
-    (P::Boolean, C::None, A::Int8, A::Boolean),
-    (P::Double, C::None, A::Struct, A::Float64),
+    (P::Boolean, None, A::Int8, A::Boolean),
+    (P::Double, None, A::Struct, A::Float64),
 ];
 
 // A leaf, three hint rows with their sizes, and what the leaf is under the first.
@@ -599,7 +604,7 @@ fn is(answer: Result<A, Refusal>, own: Option<A>) -> bool {
     }
 }
 
-fn leaf(physical: P, type_length: i32, logical: Option<L>, converted: C) -> Leaf {
+fn leaf(physical: P, type_length: i32, logical: Option<L>, converted: Option<C>) -> Leaf {
     Leaf {
         physical,
         type_length,
@@ -636,7 +641,7 @@ fn hints_of(types: [A; 3], sizes: [usize; 3]) -> [HintRow; 3] {
 fn types_by_annotation(rt: HostRuntime) {
     for case in BY_LOGICAL.iter() {
         let (physical, length, logical, own) = *case;
-        let leaf = leaf(physical, length, Some(logical), C::Utf8);
+        let leaf = leaf(physical, length, Some(logical), Some(C::Utf8));
         assert!(rt; is(convert_primitive(&leaf, 3, &[], &TEXT, None), own));
     }
     for case in BY_CONVERTED.iter() {
@@ -644,7 +649,7 @@ fn types_by_annotation(rt: HostRuntime) {
         let leaf = leaf(physical, length, None, converted);
         assert!(rt; is(convert_primitive(&leaf, 3, &[], &TEXT, None), own));
     }
-    let leaf = leaf(P::Int32, 0, None, C::Utf8);
+    let leaf = leaf(P::Int32, 0, None, Some(C::Utf8));
     assert!(rt;
         matches!(
             convert_primitive(&leaf, 7, &[], &TEXT, None),
@@ -657,7 +662,7 @@ fn types_by_annotation(rt: HostRuntime) {
 fn types_under_hints(rt: HostRuntime) {
     for case in HINTED_LOGICAL.iter() {
         let (physical, logical, hint, own) = *case;
-        let leaf = leaf(physical, 12, Some(logical), C::None);
+        let leaf = leaf(physical, 12, Some(logical), None);
         let hints = [hint_of(hint, 1)];
         assert!(rt;
             is(
@@ -683,7 +688,7 @@ fn types_under_hints(rt: HostRuntime) {
 fn dictionaries_and_zones(rt: HostRuntime) {
     for case in DICTIONARIES.iter() {
         let (physical, logical, types, sizes, own) = *case;
-        let leaf = leaf(physical, 0, Some(logical), C::None);
+        let leaf = leaf(physical, 0, Some(logical), None);
         let hints = hints_of(types, sizes);
         assert!(rt;
             is(
@@ -694,7 +699,7 @@ fn dictionaries_and_zones(rt: HostRuntime) {
     }
     // a nested dictionary goes by its own row, and a row past the last is no hint
     let hints = hints_of([DICT, DICT, VIEW], [3, 2, 1]);
-    let leaf = leaf(BYTES, 0, Some(L::String), C::None);
+    let leaf = leaf(BYTES, 0, Some(L::String), None);
     assert!(rt;
         is(
             convert_primitive(&leaf, 3, &hints, &TEXT, Some(1)),

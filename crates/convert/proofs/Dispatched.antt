@@ -1,5 +1,5 @@
 -- A field or key visited by its role.
-use Rattle.std.proofs.Common.{◌≡◌, ℕ, Bool, true, false, cond, not, ◌&&◌, ◌||◌, List, [], ◌++◌, map, Ok, Err, Result, sym, refl, ap, ◌∙◌, subst, ap₂, arith}
+use Rattle.std.proofs.Common.{◌≡◌, ℕ, Bool, true, false, cond, not, ◌&&◌, ◌||◌, List, [], ◌++◌, map, Ok, Err, Result, sym, refl, ap, ◌∙◌, subst, ap₂, arith, Some, None, Option}
 use Rattle.tree.specs.Forest.{Forest}
 use Rattle.tree.specs.Forest.Forest.{bare, plant}
 use Rattle.schema.specs.declared.basic.Annotation.{Annotation}
@@ -108,7 +108,7 @@ module _ (s : Input) (role : Role) (i k : ℕ) (v : Levels) (key : Bool) (hs : F
   named_apart named = named_by named e.kind refl
 
   -- a group that breaks the rules
-  pub broken_gives : (x : Refusal) → role ≡ broken x → (n : Annotation) → e.kind ≡ group n → field_as s role i k v false key hs e b ≡ Err x
+  pub broken_gives : (x : Refusal) → role ≡ broken x → (n : Option Annotation) → e.kind ≡ group n → field_as s role i k v false key hs e b ≡ Err x
   broken_gives x h n q =
       at_group typing chosen v false (read_as false) n under q
       ∙ ap (λ (y : Role). checked (group_checks i y (wrapped (read_as false).part rep) hs (trees under))
@@ -133,7 +133,7 @@ is_broken mapped = 0
 is_broken entries = 0
 is_broken (broken n) = 1
 
-pub broken_kind : (i : ℕ) (q : Kind) (rep : Repetition) (f : Forest Numbered) (x : Refusal) → by_annotation i q rep f ≡ broken x → (n : Annotation) × (q ≡ group n)
+pub broken_kind : (i : ℕ) (q : Kind) (rep : Repetition) (f : Forest Numbered) (x : Refusal) → by_annotation i q rep f ≡ broken x → (n : Option Annotation) × (q ≡ group n)
 broken_kind i (leaf l) rep f x h = absurd (omega (arith, ap is_broken h))
 broken_kind i (group n) rep f x h = (n, refl)
 
@@ -167,10 +167,10 @@ map_own n rep f = cond_parent (is_repeated rep) (broken (no.MapRepeated n)) (map
 
 own_annotation : (n : ℕ) (q : Kind) (rep : Repetition) (f : Forest Numbered) → by_parent (by_annotation n q rep f) ≡ 0
 own_annotation n (leaf l) rep f = refl
-own_annotation n (group a.None) rep f = refl
-own_annotation n (group a.List) rep f = list_own n rep f
-own_annotation n (group a.Map) rep f = map_own n rep f
-own_annotation n (group a.MapKeyValue) rep f = map_own n rep f
+own_annotation n (group None) rep f = refl
+own_annotation n (group (Some a.List)) rep f = list_own n rep f
+own_annotation n (group (Some a.Map)) rep f = map_own n rep f
+own_annotation n (group (Some a.MapKeyValue)) rep f = map_own n rep f
 
 reads_own : (table : List Element) (i : ℕ) (role : Role) → Reads table i role → Rooted table i → by_parent role ≡ 0
 reads_own table i role h t =

@@ -46,11 +46,11 @@ raised_def v required = omega arith
 raised_def v optional = omega arith
 raised_def v repeated = omega arith
 
-pub group_next : (names : List ℕ) (k : ℕ) (e : Element) (b : Forest Element) (n : Annotation) → e.kind ≡ group n → k + leaf_count (spelled_by names b) ≡ next_leaf names k e b
+pub group_next : (names : List ℕ) (k : ℕ) (e : Element) (b : Forest Element) (n : Option Annotation) → e.kind ≡ group n → k + leaf_count (spelled_by names b) ≡ next_leaf names k e b
 group_next names k e b n h = ap (λ (y : Kind). k + cond (is_leaf y) 1 (leaf_count (spelled_by names b))) (sym h)
 
 -- a group counts the leaves of its one child
-pub next_single : (names : List ℕ) (k : ℕ) (e : Element) (n : Annotation) → e.kind ≡ group n → (c : Element) (b : Forest Element) → next_leaf names k c b ≡ next_leaf names k e (plant c b bare)
+pub next_single : (names : List ℕ) (k : ℕ) (e : Element) (n : Option Annotation) → e.kind ≡ group n → (c : Element) (b : Forest Element) → next_leaf names k c b ≡ next_leaf names k e (plant c b bare)
 next_single names k e n h c b = omega (arith, group_next names k e (plant c b bare) n h)
 
 off_list : (i : ℕ) (hs : Forest Hint) → hint_fits any_list hs ≡ false → (o : Outcome) → checked (list_checks i hs) o ≡ Err (no.HintKind i)

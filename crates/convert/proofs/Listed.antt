@@ -1,5 +1,5 @@
 -- A group that is read as a list.
-use Rattle.std.proofs.Common.{◌≡◌, ℕ, ◌+◌, Bool, true, false, cond, List, [], map, Ok, Err, sym, refl, ap, ◌∙◌, ap₂, append-nil}
+use Rattle.std.proofs.Common.{◌≡◌, ℕ, ◌+◌, Bool, true, false, cond, List, [], map, Ok, Err, sym, refl, ap, ◌∙◌, ap₂, append-nil, Option}
 use Rattle.tree.specs.Forest.{Forest, count}
 use Rattle.tree.specs.Forest.Forest.{bare, plant}
 use Rattle.schema.specs.declared.basic.Annotation.{Annotation}
@@ -40,7 +40,7 @@ no_rows g x i repeated v p o h = differ h
 
 -- a repeated child through which its one child is the element
 pub record Through (c : Element) (f : Forest Element) : Type 0 where
-  pub how : Annotation
+  pub how : Option Annotation
   pub kind : c.kind ≡ group how
   pub item : Element
   pub under : Forest Element

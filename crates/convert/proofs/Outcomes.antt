@@ -1,5 +1,5 @@
 -- How the outcome of a forest comes from those of its parts.
-use Rattle.std.proofs.Common.{◌≡◌, ℕ, suc, ◌<◌, Bool, true, false, cond, List, [], ◌∷◌, ◌++◌, map, length, Ok, Err, sym, refl, ap, ◌∙◌, append_assoc, append-nil, arith, length-append}
+use Rattle.std.proofs.Common.{◌≡◌, ℕ, suc, ◌<◌, Bool, true, false, cond, List, [], ◌∷◌, ◌++◌, map, length, Ok, Err, sym, refl, ap, ◌∙◌, append_assoc, append-nil, arith, length-append, Option}
 use Rattle.tree.specs.Forest.{Forest, count}
 use Rattle.tree.specs.Forest.Forest.{bare, plant}
 use Rattle.schema.specs.declared.basic.Annotation.{Annotation}
@@ -149,7 +149,7 @@ module _ (typing : Typing) (chosen : ℕ → Bool) where
   abbrev pub named_first : Read → Outcome → Outcome
   named_first x o = checked (name_checks x.of.number x.given.named x.of.name x.given.hint) o
 
-  pub at_group : (v : Levels) (p : Bool) (x : Read) (n : Annotation) (b : Forest Read) → x.of.kind ≡ group n
+  pub at_group : (v : Levels) (p : Bool) (x : Read) (n : Option Annotation) (b : Forest Read) → x.of.kind ≡ group n
       → outcome typing chosen v p (plant x b bare)
       ≡ named_first x (checked (group_checks x.of.number x.role (wrapped x.part x.of.repetition) x.given.hint (trees b))
       (within_all (map (full_of typing) (group_rows x (items_of x.role) (has_own x.role) x.of.repetition (raised v x.of.repetition) p))

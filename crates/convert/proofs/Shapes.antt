@@ -1,5 +1,5 @@
 -- What a role says of the tree.
-use Rattle.std.proofs.Common.{◌≡◌, ℕ, ◌+◌, Bool, true, false, cond, not, ◌&&◌, List, sym, refl, ap, ◌∙◌, subst, ap₂, arith}
+use Rattle.std.proofs.Common.{◌≡◌, ℕ, ◌+◌, Bool, true, false, cond, not, ◌&&◌, List, sym, refl, ap, ◌∙◌, subst, ap₂, arith, Some, None, Option}
 use Rattle.tree.specs.Forest.{Forest}
 use Rattle.tree.specs.Forest.Forest.{bare, plant}
 use Rattle.schema.specs.declared.element.Element.{Element}
@@ -39,7 +39,7 @@ again_is Repeated h = refl
 
 -- a group that is read as a list, with its one child
 pub record AsList (e : Element) (f : Forest Element) : Type 0 where
-  pub how : Annotation
+  pub how : Option Annotation
   pub kind : e.kind ≡ group how
   pub once : again e ≡ false
   pub child : Element
@@ -49,11 +49,11 @@ pub record AsList (e : Element) (f : Forest Element) : Type 0 where
 
 -- a map of key and value
 pub record AsMap (e : Element) (f : Forest Element) : Type 0 where
-  pub how : Annotation
+  pub how : Option Annotation
   pub kind : e.kind ≡ group how
   pub once : again e ≡ false
   pub child : Element
-  pub inner : Annotation
+  pub inner : Option Annotation
   pub child_kind : child.kind ≡ group inner
   pub repeats : or_required child.repetition ≡ Repeated
   pub key : Element
@@ -84,12 +84,12 @@ and_both : (a b : Bool) → (a && b) ≡ true → (a ≡ true) × (b ≡ true)
 and_both true b h = (refl, h)
 and_both false b h = differ (sym h)
 
-group_is : (k : Kind) → not (is_leaf k) ≡ true → (n : Annotation) × (k ≡ group n)
+group_is : (k : Kind) → not (is_leaf k) ≡ true → (n : Option Annotation) × (k ≡ group n)
 group_is (leaf l) h = differ (sym h)
 group_is (group n) h = (n, refl)
 
 module _ (text : List ℕ) (i k : ℕ) where
-  list_as : (e : Element) (how : Annotation) → e.kind ≡ group how → (f : Forest Element) → list_role i (or_required e.repetition) (kids text i k f) ≡ listed → AsList e f
+  list_as : (e : Element) (how : Option Annotation) → e.kind ≡ group how → (f : Forest Element) → list_role i (or_required e.repetition) (kids text i k f) ≡ listed → AsList e f
   list_as e how q bare h = absurd (omega (arith, ap role_no h))
   list_as e how q (plant c cb bare) h =
       let s = list_child_is i (again c) (again e) h in
@@ -101,7 +101,7 @@ module _ (text : List ℕ) (i k : ℕ) where
   list_not_map rep (plant c cb bare) h = list_child_not i (again c) (is_repeated rep) h
   list_not_map rep (plant c cb (plant d db z)) h = omega (arith, ap role_no h)
 
-  map_as_list : (e : Element) (how : Annotation) → e.kind ≡ group how → (f : Forest Element) → map_role i (or_required e.repetition) (kids text i k f) ≡ listed → AsList e f
+  map_as_list : (e : Element) (how : Option Annotation) → e.kind ≡ group how → (f : Forest Element) → map_role i (or_required e.repetition) (kids text i k f) ≡ listed → AsList e f
   map_as_list e how q f h =
       let s = cond_no (again e) (broken (no.MapRepeated i)) (map_child i (kids text i k f)) listed h (λ x. omega (arith, ap role_no x)) in
       go s.0 f s.1
@@ -114,7 +114,7 @@ module _ (text : List ℕ) (i k : ℕ) where
           let b = and_both (again c) (not (is_leaf c.kind)) s.0 in
           record { how = how; kind = q; once = once; child = c; under = cb; is = refl; repeats = again_is (or_required c.repetition) b.0 }
 
-  map_as_map : (e : Element) (how : Annotation) → e.kind ≡ group how → (f : Forest Element) → map_role i (or_required e.repetition) (kids text i k f) ≡ mapped → AsMap e f
+  map_as_map : (e : Element) (how : Option Annotation) → e.kind ≡ group how → (f : Forest Element) → map_role i (or_required e.repetition) (kids text i k f) ≡ mapped → AsMap e f
   map_as_map e how q f h =
       let s = cond_no (again e) (broken (no.MapRepeated i)) (map_child i (kids text i k f)) mapped h (λ x. omega (arith, ap role_no x)) in
       go s.0 f s.1
@@ -151,17 +151,17 @@ module _ (text : List ℕ) (i k : ℕ) where
 
   as_list : (e : Element) (q : Kind) → e.kind ≡ q → (f : Forest Element) → by_annotation i q (or_required e.repetition) (kids text i k f) ≡ listed → AsList e f
   as_list e (leaf l) q f h = absurd (omega (arith, ap role_no h))
-  as_list e (group a.None) q f h = absurd (omega (arith, ap role_no h))
-  as_list e (group a.List) q f h = list_as e a.List q f h
-  as_list e (group a.Map) q f h = map_as_list e a.Map q f h
-  as_list e (group a.MapKeyValue) q f h = map_as_list e a.MapKeyValue q f h
+  as_list e (group None) q f h = absurd (omega (arith, ap role_no h))
+  as_list e (group (Some a.List)) q f h = list_as e (Some a.List) q f h
+  as_list e (group (Some a.Map)) q f h = map_as_list e (Some a.Map) q f h
+  as_list e (group (Some a.MapKeyValue)) q f h = map_as_list e (Some a.MapKeyValue) q f h
 
   as_map : (e : Element) (q : Kind) → e.kind ≡ q → (f : Forest Element) → by_annotation i q (or_required e.repetition) (kids text i k f) ≡ mapped → AsMap e f
   as_map e (leaf l) q f h = absurd (omega (arith, ap role_no h))
-  as_map e (group a.None) q f h = absurd (omega (arith, ap role_no h))
-  as_map e (group a.List) q f h = absurd (list_not_map (or_required e.repetition) f h)
-  as_map e (group a.Map) q f h = map_as_map e a.Map q f h
-  as_map e (group a.MapKeyValue) q f h = map_as_map e a.MapKeyValue q f h
+  as_map e (group None) q f h = absurd (omega (arith, ap role_no h))
+  as_map e (group (Some a.List)) q f h = absurd (list_not_map (or_required e.repetition) f h)
+  as_map e (group (Some a.Map)) q f h = map_as_map e (Some a.Map) q f h
+  as_map e (group (Some a.MapKeyValue)) q f h = map_as_map e (Some a.MapKeyValue) q f h
 
   pub listed_shape : (e : Element) (f : Forest Element) → by_annotation i e.kind (or_required e.repetition) (kids text i k f) ≡ listed → AsList e f
   listed_shape e f h = as_list e e.kind refl f h
@@ -197,13 +197,13 @@ module _ {t : List Element} {i : ℕ} (e : Element) (b n : Forest Element) (q : 
     pub takes_leaf : (l : Leaf) → (element_at t (i + 1)).kind ≡ leaf l → first_is_element (part text e.name) (kids text i k b) ≡ true
     takes_leaf l h = at_kind (leaf l) h
 
-    pub takes_several : (how : Annotation) → (element_at t (i + 1)).kind ≡ group how → (trees s.under ≡ 1 → ⊥)
+    pub takes_several : (how : Option Annotation) → (element_at t (i + 1)).kind ≡ group how → (trees s.under ≡ 1 → ⊥)
         → first_is_element (part text e.name) (kids text i k b) ≡ true
     takes_several how h m =
         at_kind (group how) h
         ∙ by_several (λ f. is_element (part text e.name) (part text s.child.name) (group how) (kids text (i + 1) k f) ≡ true) refl (λ a c v d z. refl) s.under m
 
-    pub takes_one : (how : Annotation) → (element_at t (i + 1)).kind ≡ group how → trees s.under ≡ 1
+    pub takes_one : (how : Option Annotation) → (element_at t (i + 1)).kind ≡ group how → trees s.under ≡ 1
         → first_is_element (part text e.name) (kids text i k b)
         ≡ one_child how (again (element_at t ((i + 1) + 1))) (names_element (part text (element_at t i).name) (part text (element_at t (i + 1)).name))
     takes_one how h w =

@@ -1,5 +1,5 @@
 -- Fields in turn, and a struct round its fields.
-use Rattle.std.proofs.Common.{◌≡◌, ℕ, suc, ◌+◌, ◌*◌, ◌≤◌, Bool, true, false, not, ◌&&◌, List, [], ◌∷◌, ◌++◌, map, length, None, Ok, sym, refl, ap, ◌∙◌, ap₂, arith}
+use Rattle.std.proofs.Common.{◌≡◌, ℕ, suc, ◌+◌, ◌*◌, ◌≤◌, Bool, true, false, not, ◌&&◌, List, [], ◌∷◌, ◌++◌, map, length, None, Ok, sym, refl, ap, ◌∙◌, ap₂, arith, Option}
 use Rattle.tree.specs.Forest.{Forest, count}
 use Rattle.tree.specs.Forest.Forest.{bare, plant}
 use Rattle.schema.specs.declared.basic.Annotation.{Annotation}
@@ -131,7 +131,7 @@ field_few s role i k v named key hs e b rows h =
 
 -- ── A struct ──
 
-module _ (s : Input) (c : Seat) (t : Told) (q : Seats s c t) (i k : ℕ) (e : Element) (n : Annotation) (kind : e.kind ≡ group n) (below : Forest Element) where
+module _ (s : Input) (c : Seat) (t : Told) (q : Seats s c t) (i k : ℕ) (e : Element) (n : Option Annotation) (kind : e.kind ≡ group n) (below : Forest Element) where
   abbrev rep : Repetition
   rep = or_required e.repetition
 

@@ -77,7 +77,7 @@ module _ (s : Input) (i : ℕ) (c : Seat) (start : Cursor) where
       f h.root.top h.root.below h.root.after h.root.lies hs p in
       omega (arith, w.ends)
 
-  module _ (before after : List ResultRow) (n : Annotation) (kind : here.kind ≡ group n) where
+  module _ (before after : List ResultRow) (n : Option Annotation) (kind : here.kind ≡ group n) where
     at_here : (r : Result Cursor Refusal)
         → ((b next : Forest Element) → Stands s.elements i (plant here b next) → (t : Told) → Seats s c t
         → Meets s.names (gives_as s own i start.leaf c t here b) start.row (start.leaf + leaf_count (spelled_by s.names b)) before after r)

@@ -1,5 +1,5 @@
 -- The walk from the root.
-use Rattle.std.proofs.Common.{◌≡◌, ℕ, ◌+◌, ◌*◌, ◌≤◌, Bool, true, false, ◌&&◌, eqb, List, [], ◌∷◌, map, length, take, Some, Ok, Err, Result, sym, refl, ap, ◌∙◌, subst, ap₂, append-nil, arith}
+use Rattle.std.proofs.Common.{◌≡◌, ℕ, ◌+◌, ◌*◌, ◌≤◌, Bool, true, false, ◌&&◌, eqb, List, [], ◌∷◌, map, length, take, Some, Ok, Err, Result, sym, refl, ap, ◌∙◌, subst, ap₂, append-nil, arith, None, Option}
 use lib.ListN.{length-map}
 use Rattle.std.proofs.lemmas.List.{length-take}
 use Rattle.std.proofs.lemmas.Bool.{and_parts}
@@ -69,21 +69,19 @@ typing_same rows text = λ i l hint. go l hint i
     go l bare = refl
     go l (plant h b c) = refl
 
-root_read : (hints : Forest Hint) (x : Numbered) (below : Forest Numbered) → x.kind ≡ group a.None
+root_read : (hints : Forest Hint) (x : Numbered) (below : Forest Numbered) → x.kind ≡ group None
     → hinting false bare hints (reading as_root nobody (plant x below bare)) ≡ told_tree (root_told hints) own x below
 unfolding reading hinting
 root_read hints x below e =
     let F : Role → Forest Read = λ role. plant (told_label (root_told hints) role x) (told_below (root_told hints) role x below) bare in
     ap F (ap {B = Role} (λ (k : Kind). by_annotation x.number k x.repetition below) e)
 
-plain_none : (k : Kind) → plain_group k ≡ true → k ≡ group a.None
-plain_none (group a.None) e = refl
-plain_none (group a.List) e = absurd (let z : ◌≡◌ {A = ℕ} 0 1 = cc in omega arith)
-plain_none (group a.Map) e = absurd (let z : ◌≡◌ {A = ℕ} 0 1 = cc in omega arith)
-plain_none (group a.MapKeyValue) e = absurd (let z : ◌≡◌ {A = ℕ} 0 1 = cc in omega arith)
+plain_none : (k : Kind) → plain_group k ≡ true → k ≡ group None
+plain_none (group None) e = refl
+plain_none (group (Some how)) e = absurd (let z : ◌≡◌ {A = ℕ} 0 1 = cc in omega arith)
 plain_none (leaf l) e = absurd (let z : ◌≡◌ {A = ℕ} 0 1 = cc in omega arith)
 
-root_plain : (bytes : ℕ) (e : Element) → root_kept bytes e ≡ true → e.kind ≡ group a.None
+root_plain : (bytes : ℕ) (e : Element) → root_kept bytes e ≡ true → e.kind ≡ group None
 root_plain bytes e k =
     let p = (and_parts (eqb e.depth 0) (is_none e.repetition && (plain_group e.kind && named_inside bytes e)) k).1 in
     let q = (and_parts (is_none e.repetition) (plain_group e.kind && named_inside bytes e) p).1 in
@@ -126,9 +124,9 @@ module _ (s : Input) where
           def_low = omega (arith, root_many, ap (λ (l : Levels). l.def) e);
         }
 
-    pub root_kind : (n : Annotation) × ((element_at s.elements 0).kind ≡ group n)
+    pub root_kind : (n : Option Annotation) × ((element_at s.elements 0).kind ≡ group n)
     root_kind =
-        (a.None, ap (λ (e : Element). e.kind) (read_here s.elements 0 tree.0.root tree.0.under bare root_stands) ∙ root_plain bytes tree.0.root tree.1.root)
+        (None, ap (λ (e : Element). e.kind) (read_here s.elements 0 tree.0.root tree.0.under bare root_stands) ∙ root_plain bytes tree.0.root tree.1.root)
 
     -- what it gives is what the walk gives
     module _ (h : Forest HintRow) (l : Lists hint_span h s.hints) where

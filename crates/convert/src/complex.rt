@@ -1,5 +1,5 @@
 // The walk over a schema: one visit for each kind of element.
-ghost use Rattle.std.specs.Prelude.{◌≡◌, ℕ, ◌+◌, ◌*◌, ◌^◌, ◌<◌, ◌≤◌, false, length};
+ghost use Rattle.std.specs.Prelude.{◌≡◌, ℕ, ◌+◌, ◌*◌, ◌^◌, ◌<◌, ◌≤◌, false, length, Option};
 ghost use Rattle.tree.specs.Forest.{Forest, Lists};
 ghost use Rattle.schema.specs.declared.element.Kind.TheVariants.{Leaf as LeafKind, Group as GroupKind};
 ghost use Rattle.walk.specs.declared.role.Role.TheVariants.{Own as OwnRole, Listed as ListedRole, Mapped as MappedRole, Middle as MiddleRole, Entries as EntriesRole};
@@ -239,7 +239,7 @@ fn visit_struct(
     requires ready { Ready (read_by source).elements at seat.levels from (length rows.old) }
     requires hints { WholeHints (read_by source).hints }
     requires hinted { HasHint (read_by source) seat.hint }
-    requires kind { (n : Annotation) × ((element_at (read_by source).elements at).kind ≡ GroupKind n) }
+    requires kind { (n : Option Annotation) × ((element_at (read_by source).elements at).kind ≡ GroupKind n) }
     ensures { Visits (read_by source.entry) at seat from rows.old rows.new result }
 {
     let element = source.elements[at];

@@ -107,12 +107,9 @@ pub(crate) fn role_at(elements: &[Element], at: usize) -> Role
     ensures { Reads elements.now at result }
 {
     match elements[at].kind {
-        Kind::Leaf(_) => Role::Own,
-        Kind::Group(annotation) => match annotation {
-            Annotation::None => Role::Own,
-            Annotation::List => list_role(elements, at),
-            Annotation::Map | Annotation::MapKeyValue => map_role(elements, at),
-        },
+        Kind::Leaf(_) | Kind::Group(None) => Role::Own,
+        Kind::Group(Some(Annotation::List)) => list_role(elements, at),
+        Kind::Group(Some(Annotation::Map | Annotation::MapKeyValue)) => map_role(elements, at),
     }
 }
 
@@ -152,13 +149,13 @@ fn names_element(group: &[u8], name: &[u8]) -> bool
     same(&name[..length], group) && same(&name[length..], b"_tuple")
 }
 
-fn one_child(annotation: Annotation, again: bool, by_name: bool) -> bool
+fn one_child(annotation: Option<Annotation>, again: bool, by_name: bool) -> bool
     ensures { result ≡ one_child annotation again by_name }
 {
     match annotation {
-        Annotation::None => again || by_name,
-        Annotation::List => false,
-        Annotation::Map | Annotation::MapKeyValue => !again && by_name,
+        None => again || by_name,
+        Some(Annotation::List) => false,
+        Some(Annotation::Map | Annotation::MapKeyValue) => !again && by_name,
     }
 }
 

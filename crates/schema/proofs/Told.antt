@@ -4,7 +4,6 @@ use Rattle.std.specs.List.{AllByRecursion}
 use Rattle.std.proofs.lemmas.List.{drop-take, take-take, take-append-le, take_at, drop_at, length-take-le, length-take, length-set, take_more_set, map_push, length-append, length-drop}
 use Rattle.std.proofs.lemmas.Bool.{and_parts, and_from, or_from, leb-true, leb-false, ltb-false, le-leb, le-ltb, eq-eqb, ne_eqb, cond-true, cond-false}
 use Rattle.schema.specs.declared.basic.Annotation.{Annotation}
-use Rattle.schema.specs.declared.basic.Annotation.TheVariants as a
 use Rattle.schema.specs.declared.basic.Repetition.{Repetition}
 use Rattle.schema.specs.declared.draft.Draft.{Draft}
 use Rattle.schema.specs.declared.draft.Schema.{Schema}
@@ -275,7 +274,7 @@ abbrev after : Call → Bool → Words → Words
 after call ok w = cond ok (said call w) w
 
 root_alone : {name : List ℕ} {i : Option ℤ} {els : List Element} {ns : List ℕ} {d : Draft} {els' : List Element} {ns' : List ℕ}
-    (s : Spelt None i (k.Group a.None) name blank els ns d els' ns') → rows_kept d.bytes (new_row s ∷ []) ≡ true
+    (s : Spelt None i (k.Group None) name blank els ns d els' ns') → rows_kept d.bytes (new_row s ∷ []) ≡ true
 unfolding new_row
 root_alone {d = d} s = and_from (root_kept d.bytes (new_row s)) true (spelt_inside s) refl
 
@@ -296,7 +295,7 @@ tells_begun {name} {i} {els} {ns} {d} {els'} {ns'} b =
     }
 
 module _ (w : Words) {d : Draft} {els : List Element} {ns : List ℕ} {d' : Draft} {els' : List Element} {ns' : List ℕ} (t : DraftTells w d els ns) where
-  tells_opened : {name : List ℕ} {q : Repetition} {n : Annotation} {i : Option ℤ} (r : Result ℕ Refusal) → Opened name q n i d els ns r d' els' ns' → DraftTells (after (opens name q n i) (is_ok r) w) d' els' ns'
+  tells_opened : {name : List ℕ} {q : Repetition} {n : Option Annotation} {i : Option ℤ} (r : Result ℕ Refusal) → Opened name q n i d els ns r d' els' ns' → DraftTells (after (opens name q n i) (is_ok r) w) d' els' ns'
   tells_opened {name} {q} {n} {i} (Ok m) o =
       let s = o.after.1 in
       let room = spelt_room name d els ns o.answer in

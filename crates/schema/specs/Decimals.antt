@@ -45,7 +45,6 @@ fits physical n scale precision =
 
 -- the scale and precision of a decimal by its converted type
 abbrev pub by_converted : ConvertedType → ℤ → ℤ → Option (ℤ × ℤ)
-by_converted c.None s d = None
 by_converted c.Utf8 s d = None
 by_converted c.Map s d = None
 by_converted c.MapKeyValue s d = None
@@ -85,9 +84,10 @@ by_logical (l.Time u t) = None
 by_logical (l.Timestamp u t) = None
 
 -- a logical type decides, by its own numbers; only without one does the converted type, by the leaf's
-abbrev pub annotated : Option LogicalType → ConvertedType → ℤ → ℤ → Option (ℤ × ℤ)
+abbrev pub annotated : Option LogicalType → Option ConvertedType → ℤ → ℤ → Option (ℤ × ℤ)
 annotated (Some t) c s d = by_logical t
-annotated None c s d = by_converted c s d
+annotated None (Some c) s d = by_converted c s d
+annotated None None s d = None
 
 abbrev pub decimal_of : Leaf → Option (ℤ × ℤ)
 decimal_of f = annotated f.logical f.converted f.scale f.precision

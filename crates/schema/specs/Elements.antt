@@ -1,6 +1,5 @@
 -- What the rows of a schema's table tell.
 use Rattle.std.specs.Prelude.{ℕ, ◌+◌, Bool, true, false, List, take, drop, None}
-use Rattle.schema.specs.declared.basic.Annotation.TheVariants as a
 use Rattle.schema.specs.declared.element.Element.{Element}
 use Rattle.schema.specs.declared.element.Place.{Place}
 use Rattle.schema.specs.declared.element.Kind.{Kind}
@@ -24,4 +23,4 @@ part memory p = take p.length (drop p.start memory)
 
 -- an empty row, and what is read past the last row of a table
 abbrev pub empty : Element
-empty = record { name = record { start = 0; length = 0 }; depth = 0; repetition = None; field_id = None; size = 0; kind = k.Group a.None }
+empty = record { name = record { start = 0; length = 0 }; depth = 0; repetition = None; field_id = None; size = 0; kind = k.Group None }

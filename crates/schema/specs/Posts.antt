@@ -1,7 +1,6 @@
 -- What each call answers and leaves. Each of these stands in its call's contract and is a step of `Reached`.
 use Rattle.std.specs.Prelude.{◌≡◌, ℕ, ◌+◌, ◌-◌, ◌<◌, ◌≤◌, Bool, cond, not, ◌&&◌, ◌||◌, List, ◌++◌, map, length, take, drop, ℤ, Some, None, Ok, Err, Option, Result, MatchResult, ◌==◌, nat_le, nat_lt, slice_set}
 use Rattle.schema.specs.declared.basic.Annotation.{Annotation}
-use Rattle.schema.specs.declared.basic.Annotation.TheVariants as a
 use Rattle.schema.specs.declared.basic.Repetition.{Repetition}
 use Rattle.schema.specs.declared.draft.Draft.{Draft}
 use Rattle.schema.specs.declared.draft.Schema.{Schema}
@@ -74,7 +73,7 @@ begin_refusal name els ns = first (no_room 0 els) no.ElementsFull (first (long_n
 
 pub record Begun (name : List ℕ) (fieldId : Option ℤ) (els : List Element) (ns : List ℕ) (r : Result Draft Refusal) (els' : List Element) (ns' : List ℕ) : Type 0 where
   pub answer : refusal r ≡ begin_refusal name els ns
-  pub after : MatchResult r (λ d. Spelt None fieldId (k.Group a.None) name blank els ns d els' ns') (λ _. Same blank els ns blank els' ns')
+  pub after : MatchResult r (λ d. Spelt None fieldId (k.Group None) name blank els ns d els' ns') (λ _. Same blank els ns blank els' ns')
 
 -- open: 7, 1, 2, 3; it answers the element's number
 
@@ -85,7 +84,7 @@ spell_refusal name d els ns =
     (first (nat_lt 64 d.groups) no.TooDeep
     (first (long_name name d.bytes ns) no.NameTooLong None)))
 
-pub record Opened (name : List ℕ) (repetition : Repetition) (annotation : Annotation) (fieldId : Option ℤ) (d : Draft) (els : List Element) (ns : List ℕ) (r : Result ℕ Refusal) (d' : Draft) (els' : List Element) (ns' : List ℕ) : Type 0 where
+pub record Opened (name : List ℕ) (repetition : Repetition) (annotation : Option Annotation) (fieldId : Option ℤ) (d : Draft) (els : List Element) (ns : List ℕ) (r : Result ℕ Refusal) (d' : Draft) (els' : List Element) (ns' : List ℕ) : Type 0 where
   pub answer : refusal r ≡ spell_refusal name d els ns
   pub after : MatchResult r (λ n. (n ≡ d.count) × Spelt (Some repetition) fieldId (k.Group annotation) name d els ns d' els' ns') (λ _. Same d els ns d' els' ns')
 

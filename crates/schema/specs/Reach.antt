@@ -41,7 +41,7 @@ event c ok = record { call = c; accepted = ok }
 pub data Reached : List Event → Held → List Element → List ℕ → Type 0 where
   begun : {name : List ℕ} {i : Option ℤ} {els : List Element} {ns : List ℕ} {d : Draft} {els' : List Element} {ns' : List ℕ}
       → Begun name i els ns (Ok d) els' ns' → Reached (event (begins name i) true ∷ []) (drafted d) els' ns'
-  opened : {h : List Event} {d : Draft} {els : List Element} {ns : List ℕ} {name : List ℕ} {q : Repetition} {n : Annotation} {i : Option ℤ} {r : Result ℕ Refusal} {d' : Draft} {els' : List Element} {ns' : List ℕ}
+  opened : {h : List Event} {d : Draft} {els : List Element} {ns : List ℕ} {name : List ℕ} {q : Repetition} {n : Option Annotation} {i : Option ℤ} {r : Result ℕ Refusal} {d' : Draft} {els' : List Element} {ns' : List ℕ}
       → Reached h (drafted d) els ns → Opened name q n i d els ns r d' els' ns' → Reached (event (opens name q n i) (is_ok r) ∷ h) (drafted d') els' ns'
   added : {h : List Event} {d : Draft} {els : List Element} {ns : List ℕ} {name : List ℕ} {q : Repetition} {l : Leaf} {i : Option ℤ} {r : Result ℕ Refusal} {d' : Draft} {els' : List Element} {ns' : List ℕ}
       → Reached h (drafted d) els ns → Added name q l i d els ns r d' els' ns' → Reached (event (adds name q l i) (is_ok r) ∷ h) (drafted d') els' ns'

@@ -3,8 +3,6 @@ use Rattle.std.specs.Prelude.{◌≡◌, ℕ, ◌+◌, ◌≤◌, Bool, true, fa
 use Rattle.std.specs.List.{AllByRecursion}
 use Rattle.tree.specs.Forest.{Forest, Tree, alone, listing, Lists}
 use Rattle.tree.specs.Forest.Forest.{bare, plant}
-use Rattle.schema.specs.declared.basic.Annotation.{Annotation}
-use Rattle.schema.specs.declared.basic.Annotation.TheVariants as a
 use Rattle.schema.specs.declared.element.Element.{Element}
 use Rattle.schema.specs.declared.element.Kind.{Kind}
 use Rattle.schema.specs.declared.element.Kind.TheVariants as k
@@ -17,15 +15,9 @@ abbrev pub is_none : {X : Type 0} → Option X → Bool
 is_none None = true
 is_none (Some x) = false
 
-abbrev pub plain : Annotation → Bool
-plain a.None = true
-plain a.List = false
-plain a.Map = false
-plain a.MapKeyValue = false
-
 -- a group with no annotation
 abbrev pub plain_group : Kind → Bool
-plain_group (k.Group a) = plain a
+plain_group (k.Group a) = is_none a
 plain_group (k.Leaf l) = false
 
 -- a leaf keeps the rules for its length and its decimal

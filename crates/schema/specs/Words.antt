@@ -1,7 +1,6 @@
 -- What calls spell: a schema is two lists, fed only the calls' arguments and whether each was accepted.
 use Rattle.std.specs.Prelude.{◌≡◌, ℕ, Bool, cond, List, [], ◌∷◌, ◌++◌, length, ℤ, Some, None, Option, ◌==◌}
 use Rattle.schema.specs.declared.basic.Annotation.{Annotation}
-use Rattle.schema.specs.declared.basic.Annotation.TheVariants as a
 use Rattle.schema.specs.declared.basic.Repetition.{Repetition}
 use Rattle.schema.specs.declared.element.Leaf.{Leaf}
 use Rattle.schema.specs.declared.element.Kind.{Kind}
@@ -23,7 +22,7 @@ pub record Words : Type 0 where
 -- the calls, with their arguments; listing and converting have arguments that no list takes anything from
 pub data Call : Type 0 where
   begins : (name : List ℕ) (fieldId : Option ℤ) → Call
-  opens : (name : List ℕ) (repetition : Repetition) (annotation : Annotation) (fieldId : Option ℤ) → Call
+  opens : (name : List ℕ) (repetition : Repetition) (annotation : Option Annotation) (fieldId : Option ℤ) → Call
   adds : (name : List ℕ) (repetition : Repetition) (leaf : Leaf) (fieldId : Option ℤ) → Call
   closes : Call
   finishes : Call
@@ -32,7 +31,7 @@ pub data Call : Type 0 where
 
 -- the named root
 abbrev pub root_of : List ℕ → Option ℤ → Spelled
-root_of name fieldId = record { name = name; depth = 0; repetition = None; fieldId = fieldId; kind = k.Group a.None }
+root_of name fieldId = record { name = name; depth = 0; repetition = None; fieldId = fieldId; kind = k.Group None }
 
 -- an element below the root, at the depth that counts the open groups
 abbrev pub element_of : Words → List ℕ → Repetition → Option ℤ → Kind → Spelled

@@ -21,10 +21,9 @@ pub enum PhysicalType {
     FixedLenByteArray,
 }
 
-// The older annotation of a leaf, with NONE for a leaf that has none. LIST, MAP and MAP_KEY_VALUE say nothing on a leaf.
-#[derive(Clone, Copy, Debug)]
+// The older annotation of a leaf. LIST, MAP and MAP_KEY_VALUE say nothing on a leaf.
+#[derive(Clone, Copy, PartialEq, Eq, Debug)]
 pub enum ConvertedType {
-    None,
     Utf8,
     Map,
     MapKeyValue,
@@ -89,7 +88,6 @@ pub enum LogicalType {
 // The annotation of a group.
 #[derive(Clone, Copy, PartialEq, Eq, Debug)]
 pub enum Annotation {
-    None,
     List,
     Map,
     MapKeyValue,

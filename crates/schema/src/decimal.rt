@@ -61,7 +61,7 @@ impl Leaf {
     {
         match (self.logical, self.converted) {
             (Some(LogicalType::Decimal { scale, precision }), _) => Some((scale, precision)),
-            (None, ConvertedType::Decimal) => Some((self.scale, self.precision)),
+            (None, Some(ConvertedType::Decimal)) => Some((self.scale, self.precision)),
             _ => None,
         }
     }

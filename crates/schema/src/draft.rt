@@ -132,14 +132,7 @@ impl Draft {
             groups: 0,
         };
         draft.room(elements, names, name)?;
-        draft.spell(
-            elements,
-            names,
-            name,
-            None,
-            field_id,
-            Kind::Group(Annotation::None),
-        );
+        draft.spell(elements, names, name, None, field_id, Kind::Group(None));
         Ok(draft)
     }
 
@@ -150,7 +143,7 @@ impl Draft {
         names: &mut [u8],
         name: &[u8],
         repetition: Repetition,
-        annotation: Annotation,
+        annotation: Option<Annotation>,
         field_id: Option<i32>,
     ) -> Result<usize, Refusal>
         ensures told { Opened name.now repetition annotation field_id self.old elements.old names.old result self.new elements.new names.new }

@@ -33,14 +33,14 @@ pub struct Leaf {
     pub type_length: i32,
     pub scale: i32,
     pub precision: i32,
-    pub converted: ConvertedType,
+    pub converted: Option<ConvertedType>,
     pub logical: Option<LogicalType>,
 }
 
 // What an element is.
 #[derive(Clone, Copy)]
 pub enum Kind {
-    Group(Annotation),
+    Group(Option<Annotation>),
     Leaf(Leaf),
 }
 
@@ -81,7 +81,7 @@ impl Element {
         repetition: None,
         field_id: None,
         size: 0,
-        kind: Kind::Group(Annotation::None),
+        kind: Kind::Group(None),
     };
 }
 

@@ -3,17 +3,13 @@ ghost use Rattle.std.specs.Prelude.{◌≡◌, ℕ, ◌+◌, ◌<◌, ◌≤◌,
 ghost use Rattle.schema.specs.Elements.{empty};
 ghost use Rattle.schema.specs.Rows.{plain_group, kind_kept, named_inside, root_kept, row_kept, may_follow, next_kept, rows_kept, depths_of, deeper, sized, sizes_kept};
 
-use crate::basic::Annotation;
 use crate::element::{Element, Kind};
 use tree::Row;
 
 fn is_plain(kind: &Kind) -> bool
     ensures { result ≡ plain_group kind.now }
 {
-    match kind {
-        Kind::Group(Annotation::None) => true,
-        _ => false,
-    }
+    matches!(kind, Kind::Group(None))
 }
 
 fn keeps_kind(kind: &Kind) -> bool

@@ -24,21 +24,21 @@ use Rattle.script.specs.declared.words.Clock.TheVariants as k
 abbrev pub NumberSpelled : Width → List ℕ → ℤ → Type 0
 NumberSpelled width w n = IsNumeral 10 (without_leading_sign w) × FitsSigned width n × (n ≡ signed_digits_value 10 w)
 
--- `-` for what is absent, else a word of P
-abbrev pub OptionalSpelled : {T : Type 0} → (List ℕ → T → Type 0) → List ℕ → Option T → Type 0
-OptionalSpelled P w None = w ≡ codes "-"
-OptionalSpelled P w (Some x) = (w ≢ codes "-") × P w x
+-- one word for what is absent, else a word of P
+abbrev pub OptionalSpelled : {T : Type 0} → List ℕ → (List ℕ → T → Type 0) → List ℕ → Option T → Type 0
+OptionalSpelled absent P w None = w ≡ absent
+OptionalSpelled absent P w (Some x) = (w ≢ absent) × P w x
 
 abbrev pub repetition_word : Repetition → List ℕ
 repetition_word r.Required = codes "required"
 repetition_word r.Optional = codes "optional"
 repetition_word r.Repeated = codes "repeated"
 
-abbrev pub annotation_word : Annotation → List ℕ
-annotation_word a.None = codes "none"
-annotation_word a.List = codes "list"
-annotation_word a.Map = codes "map"
-annotation_word a.MapKeyValue = codes "map_key_value"
+abbrev pub annotation_word : Option Annotation → List ℕ
+annotation_word None = codes "none"
+annotation_word (Some a.List) = codes "list"
+annotation_word (Some a.Map) = codes "map"
+annotation_word (Some a.MapKeyValue) = codes "map_key_value"
 
 abbrev pub physical_word : PhysicalType → List ℕ
 physical_word p.Boolean = codes "boolean"
@@ -51,7 +51,6 @@ physical_word p.ByteArray = codes "byte_array"
 physical_word p.FixedLenByteArray = codes "fixed_len_byte_array"
 
 abbrev pub converted_word : ConvertedType → List ℕ
-converted_word c.None = codes "none"
 converted_word c.Utf8 = codes "utf8"
 converted_word c.Map = codes "map"
 converted_word c.MapKeyValue = codes "map_key_value"

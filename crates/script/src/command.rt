@@ -1,6 +1,6 @@
 // What a line of a script asks for.
 use crate::hints::{HintType, read_type};
-use crate::words::Words;
+use crate::words::{OrNone, Words};
 use schema::{Annotation, ConvertedType, Leaf, LogicalType, PhysicalType, Repetition};
 
 // A command, with the line that spells it. One space stands between two words, `-` is what is absent, and a name is the
@@ -15,7 +15,7 @@ pub enum Command<'a> {
     // open REPETITION ANNOTATION FIELDID NAME
     Open {
         repetition: Repetition,
-        annotation: Annotation,
+        annotation: Option<Annotation>,
         field_id: Option<i32>,
         name: &'a [u8],
     },
@@ -154,7 +154,7 @@ impl<'a> Command<'a> {
 
     fn open(mut words: Words<'a>) -> Option<Command<'a>> {
         let repetition = words.read::<Repetition>()?;
-        let annotation = words.read::<Annotation>()?;
+        let OrNone(annotation) = words.read::<OrNone<Annotation>>()?;
         let field_id = words.read::<Option<i32>>()?;
         Some(Command::Open {
             repetition,
@@ -202,7 +202,7 @@ fn read_leaf(words: &mut Words<'_>) -> Option<Leaf> {
         type_length: read_number(words)?,
         scale: read_number(words)?,
         precision: read_number(words)?,
-        converted: words.read::<ConvertedType>()?,
+        converted: words.read::<OrNone<ConvertedType>>()?.0,
         logical: words.read::<Option<LogicalType>>()?,
     })
 }

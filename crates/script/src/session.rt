@@ -164,7 +164,7 @@ impl Session {
         &mut self,
         name: &[u8],
         repetition: Repetition,
-        annotation: Annotation,
+        annotation: Option<Annotation>,
         field_id: Option<i32>,
     ) -> Answer {
         let Stage::Drafting(draft) = &mut self.stage else {

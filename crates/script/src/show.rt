@@ -64,14 +64,14 @@ fn repetition_word(repetition: Repetition) -> &'static str
     }
 }
 
-fn annotation_word(annotation: Annotation) -> &'static str
+fn annotation_word(annotation: Option<Annotation>) -> &'static str
     ensures { result.now ≡ annotation_word annotation }
 {
     match annotation {
-        Annotation::None => "none",
-        Annotation::List => "list",
-        Annotation::Map => "map",
-        Annotation::MapKeyValue => "map_key_value",
+        None => "none",
+        Some(Annotation::List) => "list",
+        Some(Annotation::Map) => "map",
+        Some(Annotation::MapKeyValue) => "map_key_value",
     }
 }
 

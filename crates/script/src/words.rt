@@ -1,5 +1,5 @@
 // The words of a line, and what each kind of word stands for.
-ghost use Rattle.std.specs.Prelude.{◌≡◌, ℕ, true, List, [], ◌∷◌, ◌++◌, is_some, None, codes, MatchOption};
+ghost use Rattle.std.specs.Prelude.{◌≡◌, ℕ, true, List, [], ◌∷◌, ◌++◌, is_some, Some, None, codes, MatchOption, Option};
 ghost use Rattle.std.specs.Int.{w8, w32};
 ghost use Rattle.std.specs.Option.{option_map, unwrap_or};
 ghost use Rattle.script.specs.Cuts.{Lacks, Next, Parts};
@@ -101,15 +101,34 @@ pub trait FromWord {
         ensures read { MatchOption result ((x : Self) → spells word.now x → ⊥) (λ x. spells word.now x) };
 }
 
+// What a word stands for, where one word stands for what is absent.
+fn optional<T: FromWord>(word: &str, absent: &str) -> Option<Option<T>>
+    ensures read { MatchOption result ((x : Option T) → OptionalSpelled absent.now T.FromWord.spells word.now x → ⊥) (λ x. OptionalSpelled absent.now T.FromWord.spells word.now x) }
+{
+    if word == absent {
+        return Some(None);
+    }
+    Some(Some(T::from_word(word)?))
+}
+
 // `-` stands for what is absent.
 impl<T: FromWord> FromWord for Option<T> {
-    ghost spells = { λ w x. OptionalSpelled T.FromWord.spells w x };
+    ghost spells = { λ w x. OptionalSpelled (codes "-") T.FromWord.spells w x };
 
     fn from_word(word: &str) -> Option<Option<T>> {
-        match word {
-            "-" => Some(None),
-            _ => Some(Some(T::from_word(word)?)),
-        }
+        optional(word, "-")
+    }
+}
+
+// What the format may leave out, which the word `none` stands for.
+#[derive(Clone, Copy)]
+pub struct OrNone<T>(pub Option<T>);
+
+impl<T: FromWord> FromWord for OrNone<T> {
+    ghost spells = { λ w x. OptionalSpelled (codes "none") T.FromWord.spells w x.0 };
+
+    fn from_word(word: &str) -> Option<OrNone<T>> {
+        Some(OrNone(optional(word, "none")?))
     }
 }
 
@@ -143,11 +162,10 @@ impl FromWord for Repetition {
 }
 
 impl FromWord for Annotation {
-    ghost spells = { λ w x. w ≡ annotation_word x };
+    ghost spells = { λ w x. w ≡ annotation_word (Some x) };
 
     fn from_word(word: &str) -> Option<Annotation> {
         match word {
-            "none" => Some(Annotation::None),
             "list" => Some(Annotation::List),
             "map" => Some(Annotation::Map),
             "map_key_value" => Some(Annotation::MapKeyValue),
@@ -179,7 +197,6 @@ impl FromWord for ConvertedType {
 
     fn from_word(word: &str) -> Option<ConvertedType> {
         match word {
-            "none" => Some(ConvertedType::None),
             "utf8" => Some(ConvertedType::Utf8),
             "map" => Some(ConvertedType::Map),
             "map_key_value" => Some(ConvertedType::MapKeyValue),

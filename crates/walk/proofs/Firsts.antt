@@ -149,14 +149,14 @@ module _ (e : ℕ) (rep : Repetition) (w : Bool) (hint : Forest Hint) (n : ℕ) 
       go true = refl
       go false = map_child_first below
 
-  by_itself_first : (a : Annotation) (below : Forest Read)
+  by_itself_first : (a : Option Annotation) (below : Forest Read)
       → Firsts (rule_faults e (group a) rep below) (by_annotation e (group a) rep (relabel of_label below))
-  by_itself_first a.None below = own_first e w hint n
-  by_itself_first a.List below = list_first below
-  by_itself_first a.Map below = map_role_first below
-  by_itself_first a.MapKeyValue below = map_role_first below
+  by_itself_first None below = own_first e w hint n
+  by_itself_first (Some a.List) below = list_first below
+  by_itself_first (Some a.Map) below = map_role_first below
+  by_itself_first (Some a.MapKeyValue) below = map_role_first below
 
-  same_first : (x : Numbered) (a : Annotation) (below : Forest Read) → x.number ≡ e → x.repetition ≡ rep → x.kind ≡ group a
+  same_first : (x : Numbered) (a : Option Annotation) (below : Forest Read) → x.number ≡ e → x.repetition ≡ rep → x.kind ≡ group a
       → Firsts (rule_faults e (group a) rep below) (by_annotation x.number x.kind x.repetition (relabel of_label below))
   same_first x a below en er ek =
       let bs = relabel of_label below in
@@ -166,7 +166,7 @@ module _ (e : ℕ) (rep : Repetition) (w : Bool) (hint : Forest Hint) (n : ℕ) 
       ∙ ap (λ (r : Repetition). by_annotation x.number x.kind r bs) (sym er) in
       subst (λ (role : Role). Firsts (rule_faults e (group a) rep below) role) same (by_itself_first a below)
 
-  part_first : (t : Part) (x : Numbered) (a : Annotation) (below : Forest Read) → x.number ≡ e → x.repetition ≡ rep → x.kind ≡ group a
+  part_first : (t : Part) (x : Numbered) (a : Option Annotation) (below : Forest Read) → x.number ≡ e → x.repetition ≡ rep → x.kind ≡ group a
       → Firsts (cond (by_itself t) (rule_faults e (group a) rep below) []) (role_of t x (relabel of_label below))
   part_first as_root x a below en er ek = same_first x a below en er ek
   part_first as_field x a below en er ek = same_first x a below en er ek

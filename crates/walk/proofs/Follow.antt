@@ -217,7 +217,7 @@ module _ (chosen : ℕ → Bool) where
     both = both_yield chosen p.below
 
     quiet_group : (role : Role) → half_taken chosen p ≡ half_by role some both → (some ≡ false → kept p.below ≡ [])
-        → (n : Annotation) → yields_by chosen (group n) role p.node.of.leaf_number some both ≡ false
+        → (n : Option Annotation) → yields_by chosen (group n) role p.node.of.leaf_number some both ≡ false
         → filter (kept_leaf chosen) (map (under p) (ways leaf_spot (spots p.below))) ≡ []
     quiet_group own e ih n y = kept_under p e (ways leaf_spot (spots p.below)) ∙ ap (map (under p)) (ih y)
     quiet_group listed e ih n y = kept_under p e (ways leaf_spot (spots p.below)) ∙ ap (map (under p)) (ih y)
@@ -261,7 +261,7 @@ module _ (chosen : ℕ → Bool) where
     node r k role = place (made n l a r k role) below
 
     -- a group that gives rows
-    loud_group : (r : Repetition) (an : Annotation) (role : Role) → half_taken chosen (node r (group an) role) ≡ false
+    loud_group : (r : Repetition) (an : Option Annotation) (role : Role) → half_taken chosen (node r (group an) role) ≡ false
         → (p ≡ true → r ≡ repeated)
         → map sum_of (ways made_leaf (inner role r)) ≡ map (fact (raised v r) (passes_null (has_own role) r)) (kept below)
         → map sum_of (ways made_leaf (over (group_rows (node r (group an) role).node (items_of role) (has_own role) r (raised v r) p) (inner role r)))

@@ -1,5 +1,5 @@
 -- The walking order is the order of the table, and the faults of one element come by rank.
-use Rattle.std.proofs.Common.{◌≡◌, ℕ, ◌+◌, ◌≤◌, Bool, true, false, cond, not, ◌&&◌, ◌||◌, List, [], ◌∷◌, ◌++◌, map, Some, sym, refl, ap, ◌∙◌, subst, ap₂, arith, length-append}
+use Rattle.std.proofs.Common.{◌≡◌, ℕ, ◌+◌, ◌≤◌, Bool, true, false, cond, not, ◌&&◌, ◌||◌, List, [], ◌∷◌, ◌++◌, map, Some, sym, refl, ap, ◌∙◌, subst, ap₂, arith, length-append, None}
 use mathlib.Core.List.{map-append}
 use Rattle.std.specs.List.{range_with_len, AllByRecursion}
 use Rattle.walk.proofs.Numbers.{counting_append}
@@ -118,11 +118,11 @@ map_rules e rep below =
 
 rules_fine : (e : ℕ) (k : Kind) (rep : Repetition) (below : Forest Read) → Fine e 0 17 (rule_faults e k rep below)
 rules_fine e (leaf l) rep below = none e 0 17 (omega arith)
-rules_fine e (group a.None) rep below = none e 0 17 (omega arith)
-rules_fine e (group a.List) rep below =
+rules_fine e (group None) rep below = none e 0 17 (omega arith)
+rules_fine e (group (Some a.List)) rep below =
     list_fine e (not (one_tree below)) (one_tree below && not (some_root repeated_label below)) (is_repeated rep)
-rules_fine e (group a.Map) rep below = map_rules e rep below
-rules_fine e (group a.MapKeyValue) rep below = map_rules e rep below
+rules_fine e (group (Some a.Map)) rep below = map_rules e rep below
+rules_fine e (group (Some a.MapKeyValue)) rep below = map_rules e rep below
 
 itself_fine : (e : ℕ) (b : Bool) (rs : List Refusal) → Fine e 0 17 rs → Fine e 0 17 (cond b rs [])
 itself_fine e true rs p = p

@@ -1,5 +1,5 @@
 -- In a schema that is read, what an optional LIST or MAP group passes-null falls to a repeated child.
-use Rattle.std.proofs.Common.{◌≡◌, ℕ, Bool, true, false, cond, not, ◌&&◌, ◌||◌, List, sym, refl, ap, ◌∙◌, subst, arith}
+use Rattle.std.proofs.Common.{◌≡◌, ℕ, Bool, true, false, cond, not, ◌&&◌, ◌||◌, List, sym, refl, ap, ◌∙◌, subst, arith, Some, None}
 use Rattle.walk.proofs.Follow.{Owing}
 use Rattle.walk.specs.Labels.{Numbered, is_leaf, is_optional, is_repeated, repeated_element}
 use Rattle.walk.specs.Reading.{Holder, Part, by_annotation, child_part, entries_role, first_is_element, held_by, list_child, list_role, map_child, map_role, next_part, reading, role_of}
@@ -91,10 +91,10 @@ map_wants n r below = go (is_repeated r)
 
 annotation_wants : (n : ℕ) (k : Kind) (r : Repetition) (below : Forest Numbered) → Wants r below (by_annotation n k r below)
 annotation_wants n (leaf l) r below = tt
-annotation_wants n (group a.None) r below = tt
-annotation_wants n (group a.List) r below = list_wants n r below
-annotation_wants n (group a.Map) r below = map_wants n r below
-annotation_wants n (group a.MapKeyValue) r below = map_wants n r below
+annotation_wants n (group None) r below = tt
+annotation_wants n (group (Some a.List)) r below = list_wants n r below
+annotation_wants n (group (Some a.Map)) r below = map_wants n r below
+annotation_wants n (group (Some a.MapKeyValue)) r below = map_wants n r below
 
 role_wants : (t : Part) (x : Numbered) (below : Forest Numbered) → (from_group t ≡ true → x.repetition ≡ repeated) → Wants x.repetition below (role_of t x below)
 role_wants as_root x below h = annotation_wants x.number x.kind x.repetition below

@@ -45,12 +45,12 @@ not_repeated required e = refl
 not_repeated optional e = refl
 not_repeated repeated e = absurd (e refl)
 
-plain : (k : Kind) → Unannotated k → is_leaf k ≡ false → k ≡ group a.None
+plain : (k : Kind) → Unannotated k → is_leaf k ≡ false → k ≡ group None
 plain (leaf l) u e = differ e
-plain (group a.None) u e = refl
-plain (group a.List) u e = absurd u
-plain (group a.Map) u e = absurd u
-plain (group a.MapKeyValue) u e = absurd u
+plain (group None) u e = refl
+plain (group (Some a.List)) u e = absurd u
+plain (group (Some a.Map)) u e = absurd u
+plain (group (Some a.MapKeyValue)) u e = absurd u
 
 is_a_leaf : (gn cn : List ℕ) (k : Kind) (cb : Forest Numbered) → is_leaf k ≡ true → is_element gn cn k cb ≡ true
 is_a_leaf gn cn (leaf l) cb e = refl
@@ -78,7 +78,7 @@ unfolding reading
 first_same t h bare = refl
 first_same t h (plant x below after) = refl
 
-module _ (g c : Numbered) (cb : Forest Numbered) (kind : g.kind ≡ group a.List) (single : g.repetition ≡ repeated → ⊥)
+module _ (g c : Numbered) (cb : Forest Numbered) (kind : g.kind ≡ group (Some a.List)) (single : g.repetition ≡ repeated → ⊥)
     (again : c.repetition ≡ repeated) (bare_c : Unannotated c.kind) where
   list_read : role_of as_field g (plant c cb bare) ≡ listed
   list_read =
@@ -172,10 +172,10 @@ published_lists_told name c cb h = go (is_leaf c.kind) refl h
 
 map_read : (n : ℕ) (k : Kind) (r : Repetition) (below : Forest Numbered) → MapAnnotated k → by_annotation n k r below ≡ map_role n r below
 map_read n (leaf l) r below h = absurd h
-map_read n (group a.None) r below h = absurd h
-map_read n (group a.List) r below h = absurd h
-map_read n (group a.Map) r below h = refl
-map_read n (group a.MapKeyValue) r below h = refl
+map_read n (group None) r below h = absurd h
+map_read n (group (Some a.List)) r below h = absurd h
+map_read n (group (Some a.Map)) r below h = refl
+map_read n (group (Some a.MapKeyValue)) r below h = refl
 
 module _ (g e k v : Numbered) (kb vb : Forest Numbered) (kind : MapAnnotated g.kind) (single : g.repetition ≡ repeated → ⊥)
     (l : is_leaf e.kind ≡ false) (again : e.repetition ≡ repeated) (key : k.repetition ≡ required) (value : v.repetition ≡ repeated → ⊥) where

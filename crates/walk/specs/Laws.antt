@@ -196,7 +196,7 @@ FieldsTold = (typing : Typing) (hints : Forest Hint) (t : Tree Spelled) → Fiel
 
 -- The reading of a LIST group, optional or required, over one repeated field agrees with the published rules where that field has no annotation.
 abbrev pub ListsAsPublished : Type 0
-ListsAsPublished = (g c : Numbered) (cb : Forest Numbered) → g.kind ≡ group a.List → (g.repetition ≢ repeated)
+ListsAsPublished = (g c : Numbered) (cb : Forest Numbered) → g.kind ≡ group (Some a.List) → (g.repetition ≢ repeated)
     → c.repetition ≡ repeated → Unannotated c.kind → ListAgrees g c cb
 
 -- The published rules say which element it is wherever the repeated field is no group without fields.

@@ -47,20 +47,20 @@ pub data KeyValue (e : Numbered) : Forest Numbered → Numbered → Numbered →
 -- a MAP-annotated group, or one annotated MAP_KEY_VALUE that no MAP-annotated group contains
 abbrev pub MapAnnotated : Kind → Type 0
 MapAnnotated (leaf l) = ⊥
-MapAnnotated (group a.None) = ⊥
-MapAnnotated (group a.List) = ⊥
-MapAnnotated (group a.Map) = Unit {0}
-MapAnnotated (group a.MapKeyValue) = Unit {0}
+MapAnnotated (group None) = ⊥
+MapAnnotated (group (Some a.List)) = ⊥
+MapAnnotated (group (Some a.Map)) = Unit {0}
+MapAnnotated (group (Some a.MapKeyValue)) = Unit {0}
 
 -- ── What the reading says ──
 
 -- no annotation
 abbrev pub Unannotated : Kind → Type 0
 Unannotated (leaf l) = Unit {0}
-Unannotated (group a.None) = Unit {0}
-Unannotated (group a.List) = ⊥
-Unannotated (group a.Map) = ⊥
-Unannotated (group a.MapKeyValue) = ⊥
+Unannotated (group None) = Unit {0}
+Unannotated (group (Some a.List)) = ⊥
+Unannotated (group (Some a.Map)) = ⊥
+Unannotated (group (Some a.MapKeyValue)) = ⊥
 
 -- the first element of a forest that is read
 abbrev pub first_read : Forest Read → Option Numbered

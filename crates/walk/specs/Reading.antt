@@ -1,5 +1,5 @@
 -- How each element of a schema is read. All rules for LIST and MAP stand here: what a group is, and what its repeated child is.
-use Rattle.std.specs.Prelude.{ℕ, Bool, true, false, cond, not, ◌&&◌, ◌||◌, List, [], ◌++◌, ℤ, None, codes, Option}
+use Rattle.std.specs.Prelude.{ℕ, Bool, true, false, cond, not, ◌&&◌, ◌||◌, List, [], ◌++◌, ℤ, None, codes, Option, Some}
 use Rattle.std.specs.Str.{bytes_eq}
 use Rattle.tree.specs.Forest.{Forest}
 use Rattle.tree.specs.Forest.Forest.{bare, plant}
@@ -22,11 +22,11 @@ names_element group_name name = bytes_eq name (codes "array") || bytes_eq name (
 
 -- Rules 3 to 5, for a group c with one child: c's annotation, whether that child is repeated, whether c has such a name.
 -- Rule 3: no annotation, and the child is repeated. Rule 4: not LIST, the child is not repeated, and such a name.
-abbrev pub one_child : Annotation → Bool → Bool → Bool
-one_child a.None again by_name = again || by_name
-one_child a.List again by_name = false
-one_child a.Map again by_name = not again && by_name
-one_child a.MapKeyValue again by_name = not again && by_name
+abbrev pub one_child : Option Annotation → Bool → Bool → Bool
+one_child None again by_name = again || by_name
+one_child (Some a.List) again by_name = false
+one_child (Some a.Map) again by_name = not again && by_name
+one_child (Some a.MapKeyValue) again by_name = not again && by_name
 
 -- Whether c is the list's element itself: by rule 1 if it is a leaf, by rule 2 if it has no or several children, by rules 3
 -- and 4 as above. Otherwise, by rule 5, c's one child is the element.
@@ -69,10 +69,10 @@ map_role n rep below = cond (is_repeated rep) (broken (no.MapRepeated n)) (map_c
 -- how an element is read by its own annotation
 abbrev pub by_annotation : ℕ → Kind → Repetition → Forest Numbered → Role
 by_annotation n (leaf l) rep below = own
-by_annotation n (group a.None) rep below = own
-by_annotation n (group a.List) rep below = list_role n rep below
-by_annotation n (group a.Map) rep below = map_role n rep below
-by_annotation n (group a.MapKeyValue) rep below = map_role n rep below
+by_annotation n (group None) rep below = own
+by_annotation n (group (Some a.List)) rep below = list_role n rep below
+by_annotation n (group (Some a.Map)) rep below = map_role n rep below
+by_annotation n (group (Some a.MapKeyValue)) rep below = map_role n rep below
 
 -- ── What an element is to its parent ──
 

@@ -61,10 +61,10 @@ map_faults e rep below =
 
 abbrev pub rule_faults : ℕ → Kind → Repetition → Forest Read → List Refusal
 rule_faults e (leaf l) rep below = []
-rule_faults e (group a.None) rep below = []
-rule_faults e (group a.List) rep below = list_faults e rep below
-rule_faults e (group a.Map) rep below = map_faults e rep below
-rule_faults e (group a.MapKeyValue) rep below = map_faults e rep below
+rule_faults e (group None) rep below = []
+rule_faults e (group (Some a.List)) rep below = list_faults e rep below
+rule_faults e (group (Some a.Map)) rep below = map_faults e rep below
+rule_faults e (group (Some a.MapKeyValue)) rep below = map_faults e rep below
 
 -- the repeated child of a LIST or MAP group is not read by its own annotation
 abbrev pub by_itself : Part → Bool

@@ -25,7 +25,6 @@ use Rattle.schema.specs.declared.refusal.Refusal.{Refusal}
 use Rattle.tree.specs.Forest.{Forest, Tree, count, depth, listing}
 use Rattle.tree.specs.Forest.Forest.{bare, plant}
 use Rattle.schema.specs.declared.basic.PhysicalType.TheVariants as p
-use Rattle.schema.specs.declared.basic.ConvertedType.TheVariants as c
 use Rattle.schema.specs.declared.basic.LogicalType.TheVariants as g
 use Rattle.schema.specs.declared.basic.Annotation.TheVariants as a
 use Rattle.schema.specs.declared.refusal.Refusal.TheVariants as no
@@ -35,7 +34,7 @@ use Rattle.arrow.specs.declared.row.Metadata.TheVariants as m
 -- ── Schemas ──
 
 abbrev pub int32 : Leaf
-int32 = record { physical = p.Int32; type_length = pos 0; scale = pos 0; precision = pos 0; converted = c.None; logical = None }
+int32 = record { physical = p.Int32; type_length = pos 0; scale = pos 0; precision = pos 0; converted = None; logical = None }
 
 -- a decimal by its logical type
 abbrev pub decimal : PhysicalType → ℕ → ℕ → ℕ → Leaf
@@ -45,7 +44,7 @@ decimal physical length precision scale =
       type_length = pos length;
       scale = pos 0;
       precision = pos 0;
-      converted = c.None;
+      converted = None;
       logical = Some (g.Decimal (pos scale) (pos precision));
     }
 
@@ -56,7 +55,7 @@ a_leaf depth name r i after = plant (record { name = codes name; depth = depth; 
 abbrev pub a_decimal : Leaf → Forest Spelled
 a_decimal l = plant (record { name = codes "a"; depth = 1; repetition = Some required; fieldId = None; kind = leaf l }) bare bare
 
-abbrev pub a_group : ℕ → String → Repetition → Annotation → ℕ → Forest Spelled → Forest Spelled → Forest Spelled
+abbrev pub a_group : ℕ → String → Repetition → Option Annotation → ℕ → Forest Spelled → Forest Spelled → Forest Spelled
 a_group depth name r n i below after =
     plant (record { name = codes name; depth = depth; repetition = Some r; fieldId = Some (pos i); kind = group n }) below after
 
@@ -65,37 +64,37 @@ top below = record { root = root_of (codes "root") None; under = below }
 
 -- an optional LIST whose element is, by rule 5, an optional leaf
 abbrev pub list_five : Forest Spelled
-list_five = a_group 1 "a" optional a.List 11 (a_group 2 "list" repeated a.None 12 (a_leaf 3 "x" optional 13 bare) bare) bare
+list_five = a_group 1 "a" optional (Some a.List) 11 (a_group 2 "list" repeated None 12 (a_leaf 3 "x" optional 13 bare) bare) bare
 
 -- an optional LIST whose element is, by rule 1, its repeated child
 abbrev pub list_one : Forest Spelled
-list_one = a_group 1 "a" optional a.List 11 (a_leaf 2 "x" repeated 12 bare) bare
+list_one = a_group 1 "a" optional (Some a.List) 11 (a_leaf 2 "x" repeated 12 bare) bare
 
 -- a required LIST whose element is, by rule 3, its repeated child, a struct with a repeated leaf
 abbrev pub list_three : Forest Spelled
-list_three = a_group 1 "a" required a.List 11 (a_group 2 "list" repeated a.None 12 (a_leaf 3 "x" repeated 13 bare) bare) bare
+list_three = a_group 1 "a" required (Some a.List) 11 (a_group 2 "list" repeated None 12 (a_leaf 3 "x" repeated 13 bare) bare) bare
 
 -- by rule 2: a repeated child with two children
 abbrev pub list_two : Forest Spelled
-list_two = a_group 1 "a" required a.List 11 (a_group 2 "list" repeated a.None 12 (a_leaf 3 "x" required 13 (a_leaf 3 "y" required 14 bare)) bare) bare
+list_two = a_group 1 "a" required (Some a.List) 11 (a_group 2 "list" repeated None 12 (a_leaf 3 "x" required 13 (a_leaf 3 "y" required 14 bare)) bare) bare
 
 -- a required LIST named a over a repeated child of this name and annotation, with one required leaf
-abbrev pub list_named : String → Annotation → Forest Spelled
-list_named name n = a_group 1 "a" required a.List 11 (a_group 2 name repeated n 12 (a_leaf 3 "x" required 13 bare) bare) bare
+abbrev pub list_named : String → Option Annotation → Forest Spelled
+list_named name n = a_group 1 "a" required (Some a.List) 11 (a_group 2 name repeated n 12 (a_leaf 3 "x" required 13 bare) bare) bare
 
 -- an optional MAP of a required key and an optional value, and then what comes after it
 abbrev pub a_map : Forest Spelled → Forest Spelled
-a_map after = a_group 1 "m" optional a.Map 11 (a_group 2 "entries" repeated a.None 12 (a_leaf 3 "k" required 13 (a_leaf 3 "v" optional 14 bare)) bare) after
+a_map after = a_group 1 "m" optional (Some a.Map) 11 (a_group 2 "entries" repeated None 12 (a_leaf 3 "k" required 13 (a_leaf 3 "v" optional 14 bare)) bare) after
 
 -- a required MAP whose entries have one child
 abbrev pub a_set : Forest Spelled
-a_set = a_group 1 "m" required a.Map 11 (a_group 2 "entries" repeated a.None 12 (a_leaf 3 "k" required 13 bare) bare) bare
+a_set = a_group 1 "m" required (Some a.Map) 11 (a_group 2 "entries" repeated None 12 (a_leaf 3 "k" required 13 bare) bare) bare
 
 -- a MAP whose key is an optional LIST
 abbrev pub list_key : Forest Spelled
 list_key =
-    a_group 1 "m" required a.Map 11
-    (a_group 2 "entries" repeated a.None 12 (a_group 3 "k" optional a.List 13 (a_leaf 4 "x" repeated 14 bare) (a_leaf 3 "v" required 15 bare)) bare)
+    a_group 1 "m" required (Some a.Map) 11
+    (a_group 2 "entries" repeated None 12 (a_group 3 "k" optional (Some a.List) 13 (a_leaf 4 "x" repeated 14 bare) (a_leaf 3 "v" required 15 bare)) bare)
     bare
 
 -- ── Selections and hints ──
@@ -227,12 +226,12 @@ cases =
     (Ok (root_line ∷ list_line 1 1 false "a" t.List (id 11) ∷ struct_line 1 1 false "list" m.None
     ∷ leaf_line 3 0 1 1 false "x" (id 13) ∷ leaf_line 4 1 1 1 false "y" (id 14) ∷ []))
     -- rule 4 by both names; not by another name, and not for LIST
-    ∷ case (list_named "array" a.None) all bare
+    ∷ case (list_named "array" None) all bare
     (Ok (root_line ∷ list_line 1 1 false "a" t.List (id 11) ∷ struct_line 1 1 false "array" m.None ∷ leaf_line 3 0 1 1 false "x" (id 13) ∷ []))
-    ∷ case (list_named "a_tuple" a.Map) all bare
+    ∷ case (list_named "a_tuple" (Some a.Map)) all bare
     (Ok (root_line ∷ list_line 1 1 false "a" t.List (id 11) ∷ struct_line 1 1 false "a_tuple" m.None ∷ leaf_line 3 0 1 1 false "x" (id 13) ∷ []))
-    ∷ case (list_named "b_tuple" a.None) all bare (Ok (root_line ∷ list_line 1 1 false "a" t.List (id 11) ∷ leaf_line 3 0 1 1 false "x" (id 13) ∷ []))
-    ∷ case (list_named "array" a.List) all bare (Ok (root_line ∷ list_line 1 1 false "a" t.List (id 11) ∷ leaf_line 3 0 1 1 false "x" (id 13) ∷ []))
+    ∷ case (list_named "b_tuple" None) all bare (Ok (root_line ∷ list_line 1 1 false "a" t.List (id 11) ∷ leaf_line 3 0 1 1 false "x" (id 13) ∷ []))
+    ∷ case (list_named "array" (Some a.List)) all bare (Ok (root_line ∷ list_line 1 1 false "a" t.List (id 11) ∷ leaf_line 3 0 1 1 false "x" (id 13) ∷ []))
     -- a MAP whose entries have one child is a list
     ∷ case a_set all bare (Ok (root_line ∷ list_line 1 1 false "m" t.List (id 11) ∷ leaf_line 3 0 1 1 false "k" (id 13) ∷ []))
     -- the field of a key is never null, though its row is
@@ -248,7 +247,7 @@ cases =
     -- refusals: a kind of list that is not taken there, a wrong name, a wrong name after all below the sister before it, a broken LIST before its hint
     ∷ case (a_leaf 1 "a" repeated 11 bare) all (list_hint t.ListView) (Err (no.HintKind 1))
     ∷ case list_one all (hinted (a_hint name_b t.List 0 (a_hint no_name t.Int32 0 bare bare) bare)) (Err (no.HintFieldName 1))
-    ∷ case (a_group 1 "a" required a.List 11 bare (a_leaf 1 "z" required 12 bare)) all (hinted (a_hint name_a t.Int32 0 bare (a_hint name_y t.Int32 0 bare bare))) (Err (no.ListChildren 1))
+    ∷ case (a_group 1 "a" required (Some a.List) 11 bare (a_leaf 1 "z" required 12 bare)) all (hinted (a_hint name_a t.Int32 0 bare (a_hint name_y t.Int32 0 bare bare))) (Err (no.ListChildren 1))
     -- a leaf that is not chosen is not looked at, but a group always is
     ∷ case (a_leaf 1 "a" repeated 11 bare) (but 0) (list_hint t.ListView) (Ok [])
     ∷ case list_five (but 0) (hinted (a_hint name_a t.Int32 0 bare bare)) (Err (no.HintKind 1))

@@ -22,7 +22,7 @@ pub enum PhysicalType {
 }
 
 // The older annotation of a leaf, with NONE for a leaf that has none. LIST, MAP and MAP_KEY_VALUE say nothing on a leaf.
-#[derive(Clone, Copy, Debug)]
+#[derive(Clone, Copy, PartialEq, Eq, Debug)]
 pub enum ConvertedType {
     None,
     Utf8,

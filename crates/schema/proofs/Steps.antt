@@ -1,26 +1,36 @@
 -- The steps of the loops over rows: which rows are a schema, and their sizes.
-use Rattle.std.proofs.Common.{◌≡◌, ℕ, zero, suc, ◌+◌, ◌<◌, ◌≤◌, Bool, true, false, cond, ◌&&◌, eqb, ltb, leb, List, [], ◌∷◌, ◌++◌, length, get_or, take, drop, set, sym, refl, ap, ◌∙◌, subst, ap₂, inl, inr, add-one, arith}
+use Rattle.std.proofs.Common.{◌≡◌, ℕ, zero, suc, ◌+◌, ◌<◌, ◌≤◌, Bool, true, false, cond, ◌&&◌, eqb, ltb, List, [], ◌∷◌, ◌++◌, length, get_or, take, drop, set, sym, refl, ap, ◌∙◌, subst, ap₂, inl, inr, add-one, arith}
 use Rattle.std.proofs.lemmas.Bool.{cond-true, cond-false, lt-ltb, le-ltb, le-leb, and_right, and_from, and_parts, eqb-true, eq-eqb, cases_lt}
-use Rattle.std.proofs.lemmas.List.{drop_more, drop_all, at_drop_more, at_drop_all, length-map, length-drop, drop-drop}
+use Rattle.std.proofs.lemmas.List.{drop_more, drop_all, at_drop_more, length-map, length-drop, drop-drop}
+use Rattle.std.specs.Bool.{MatchBool}
+use Rattle.std.specs.List.{zip, AllWithin, HoldsAt}
 use Rattle.schema.specs.declared.element.Element.{Element}
 use Rattle.schema.specs.Elements.{empty}
 use Rattle.schema.specs.Rows.{root_kept, next_kept, rest_kept, rows_kept, deeper, depths_of, sized, with_size, sizes_kept}
 
 -- Whether rows are a schema.
 
-pub start_kept : (bytes : ℕ) (xs : List Element) → 0 < length xs → length xs ≤ 4096 → root_kept bytes (get_or xs 0 empty) ≡ true → rows_kept bytes xs ≡ rest_kept bytes (get_or xs 0 empty) (drop 1 xs)
-start_kept bytes [] h l e = absurd (omega (arith, h))
-start_kept bytes (x ∷ xs) h l e =
-    ap (λ b. b && rest_kept bytes x xs) (and_from (leb (length xs) 4095) (root_kept bytes x) (le-leb (length xs) 4095 (omega (arith, l))) e)
+-- the first row is the root, and each later row may come after the one before it: so, or at some row not
+pub rows_from_pairs : (bytes : ℕ) (rows rest : List Element) (root : Element) (r : Bool) → rows ≡ root ∷ rest → length rows ≤ 4096 → true ≡ root_kept bytes root
+    → MatchBool r (AllWithin (λ p. next_kept bytes p.0 p.1 ≡ true) (zip rows rest) 0 (length (zip rows rest))) ((k : ℕ) × (k < length (zip rows rest)) × HoldsAt (λ p. next_kept bytes p.0 p.1 ≡ false) (zip rows rest) k)
+    → r ≡ rows_kept bytes rows
+rows_from_pairs bytes rows rest root r e l k p =
+    rw (e, le-leb (length rest) 4095 (omega (arith, ap length e, l)), ← k) (pairs root rest r (subst (λ xs. MatchBool r (AllWithin (λ p. next_kept bytes p.0 p.1 ≡ true) (zip xs rest) 0 (length (zip xs rest))) ((k : ℕ) × (k < length (zip xs rest)) × HoldsAt (λ p. next_kept bytes p.0 p.1 ≡ false) (zip xs rest) k)) e p))
+  where
+    all : (x : Element) (xs : List Element) → AllWithin (λ p. next_kept bytes p.0 p.1 ≡ true) (zip (x ∷ xs) xs) 0 (length (zip (x ∷ xs) xs)) → rest_kept bytes x xs ≡ true
+    all x [] h = refl
+    all x (y ∷ ys) h =
+        and_from (next_kept bytes x y) (rest_kept bytes y ys) (h 0 (x, y) (omega arith) (omega arith)) (all y ys (λ k d low high. h (suc k) d (omega arith) (omega (arith, high))))
 
--- one row more
-pub next_step : (bytes : ℕ) (xs : List Element) (i : ℕ) (before : Element) (b : Bool) → i < length xs → b ≡ next_kept bytes before (get_or xs i empty)
-    → rest_kept bytes before (drop i xs) ≡ (b && rest_kept bytes (get_or xs i empty) (drop (i + 1) xs))
-next_step bytes xs i before b h e =
-    at_drop_more (rest_kept bytes before) xs i empty h ∙ ap (λ c. c && rest_kept bytes (get_or xs i empty) (drop (i + 1) xs)) (sym e)
+    not_all : (x : Element) (xs : List Element) (k : ℕ) → k < length (zip (x ∷ xs) xs) → HoldsAt (λ p. next_kept bytes p.0 p.1 ≡ false) (zip (x ∷ xs) xs) k → rest_kept bytes x xs ≡ false
+    not_all x [] k l h = absurd (omega (arith, l))
+    not_all x (y ∷ ys) zero l h = ap (λ b. b && rest_kept bytes y ys) (h (x, y))
+    not_all x (y ∷ ys) (suc k) l h = and_right (next_kept bytes x y) (rest_kept bytes y ys) (not_all y ys k (omega (arith, l)) h)
 
-pub last_step : (bytes : ℕ) (xs : List Element) (i : ℕ) (before : Element) → length xs ≤ i → rest_kept bytes before (drop i xs) ≡ true
-last_step bytes xs i before h = at_drop_all (rest_kept bytes before) xs i h
+    pairs : (x : Element) (xs : List Element) (r : Bool) → MatchBool r (AllWithin (λ p. next_kept bytes p.0 p.1 ≡ true) (zip (x ∷ xs) xs) 0 (length (zip (x ∷ xs) xs))) ((k : ℕ) × (k < length (zip (x ∷ xs) xs)) × HoldsAt (λ p. next_kept bytes p.0 p.1 ≡ false) (zip (x ∷ xs) xs) k)
+        → r ≡ rest_kept bytes x xs
+    pairs x xs true h = sym (all x xs h)
+    pairs x xs false h = sym (not_all x xs h.0 h.1 h.2)
 
 -- Sizes.
 

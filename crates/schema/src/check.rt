@@ -11,25 +11,21 @@ use crate::rows::{keeps_rows, keeps_sizes};
 use tree::FlatTree;
 
 // Whether the rows are a finished schema: by their sizes a flat tree, by their depths a schema, and the two agree.
+#[tactic(auto, using(crate::proofs::ByDepths::not_flat))]
 fn keeps_finished(rows: &[Element], bytes: usize) -> bool
     ensures { result ≡ finished_kept bytes rows.now }
 {
-    if !FlatTree::new(rows).check() {
-        return false;
-    }
-    keeps_rows(rows, bytes) && keeps_sizes(rows)
+    FlatTree::new(rows).check() && keeps_rows(rows, bytes) && keeps_sizes(rows)
 }
 
 impl Schema {
+    // Apart from `check`, so that its other clauses follow from this one, and not anew at every return.
     fn keeps_memory(&self, elements: &[Element], names: &[u8]) -> bool
         ensures { result ≡ memory_kept self.now elements.now names.now }
     {
         let count = self.elements();
         let bytes = self.name_bytes();
-        if elements.len() < count || names.len() < bytes {
-            return false;
-        }
-        keeps_finished(&elements[0..count], bytes)
+        elements.len() >= count && names.len() >= bytes && keeps_finished(&elements[..count], bytes)
     }
 
     // Whether the lent memory is the finished schema that this one counts: long enough, a flat tree by its sizes in which

@@ -11,44 +11,35 @@ pub const MAX_PRECISION: [u8; 32] = [
     62, 64, 67, 69, 71, 74, 76,
 ];
 
-fn max_precision(n: usize) -> u8
-    requires { (0 < n) × (n ≤ 32) }
-    ensures held { 10 ^ result ≤ greatest n }
-    ensures most { greatest n < 10 ^ (result + 1) }
-{
-    MAX_PRECISION[n - 1]
-}
-
 fn held_by(n: usize, digits: u8) -> bool
     requires { (0 < n) × (n ≤ 32) }
     ensures { result ≡ holds n digits }
 {
-    digits <= max_precision(n)
+    digits <= MAX_PRECISION[n - 1]
 }
 
 // Whether so many bytes hold so many digits; lengths outside 1 to 32 hold none.
 fn held_in(length: i32, digits: u8) -> bool
     ensures { result ≡ in_bytes length digits }
 {
-    if length < 1 || length > 32 {
-        return false;
+    match usize::try_from(length) {
+        Ok(n @ 1..=32) => held_by(n, digits),
+        _ => false,
     }
-    held_by(length as usize, digits)
 }
 
 // Whether a leaf of this physical type and length may be a decimal of this scale and precision.
 fn fits_decimal(physical: PhysicalType, length: i32, scale: i32, precision: i32) -> bool
     ensures { result ≡ fits physical length scale precision }
 {
-    if precision < 1 || precision > 76 || scale < 0 || scale > precision {
-        return false;
-    }
-    let digits = precision as u8;
-    match physical {
-        PhysicalType::Int32 => digits <= 9,
-        PhysicalType::Int64 => digits <= 18,
-        PhysicalType::ByteArray => digits <= 76,
-        PhysicalType::FixedLenByteArray => held_in(length, digits),
+    match u8::try_from(precision) {
+        Ok(digits @ 1..=76) if (0..=precision).contains(&scale) => match physical {
+            PhysicalType::Int32 => digits <= 9,
+            PhysicalType::Int64 => digits <= 18,
+            PhysicalType::ByteArray => true,
+            PhysicalType::FixedLenByteArray => held_in(length, digits),
+            _ => false,
+        },
         _ => false,
     }
 }
@@ -70,12 +61,9 @@ impl Leaf {
     pub fn keeps_decimal_rule(&self) -> bool
         ensures rule { result ≡ keeps_decimal_rule self.now }
     {
-        match self.decimal() {
-            Some((scale, precision)) => {
-                fits_decimal(self.physical, self.type_length, scale, precision)
-            }
-            None => true,
-        }
+        self.decimal().is_none_or(|(scale, precision)| {
+            fits_decimal(self.physical, self.type_length, scale, precision)
+        })
     }
 
     // Whether a schema may hold the leaf: its fixed length is not below 0, and it keeps the decimal rule.

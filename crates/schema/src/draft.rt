@@ -70,7 +70,7 @@ impl Draft {
         if elements.len() < self.count || names.len() < self.bytes {
             return Err(Refusal::Memory);
         }
-        if elements.len() <= self.count || self.count >= 4096 {
+        if elements.len() <= self.count || self.count >= Element::MOST {
             return Err(Refusal::ElementsFull);
         }
         if self.groups > MAX_DEPTH {
@@ -196,6 +196,7 @@ impl Draft {
         Ok(())
     }
 
+    // Apart from `finish`, so that its other clauses follow from this one, and not anew at every return.
     fn make(self, elements: &mut [Element], names: &[u8]) -> Result<Schema, (Draft, Refusal)>
         ensures { Finished self elements.old names.now result elements.new }
     {
@@ -203,13 +204,13 @@ impl Draft {
             return Err((self, Refusal::Memory));
         }
         let count = self.count;
-        if !keeps_rows(&elements[0..count], self.bytes) {
+        if !keeps_rows(&elements[..count], self.bytes) {
             return Err((self, Refusal::Memory));
         }
         if self.groups != 1 {
             return Err((self, Refusal::GroupOpen));
         }
-        fill_sizes(&mut elements[0..count]);
+        fill_sizes(&mut elements[..count]);
         Ok(Schema {
             count,
             bytes: self.bytes,

@@ -6,7 +6,7 @@ use crate::basic::{Annotation, ConvertedType, LogicalType, PhysicalType, Repetit
 use tree::Row;
 
 // Where bytes lie in a caller's memory.
-#[derive(Clone, Copy)]
+#[derive(Clone, Copy, PartialEq, Eq, Debug)]
 pub struct Place {
     pub start: usize,
     pub length: u8,
@@ -26,7 +26,7 @@ impl Place {
 }
 
 // What a leaf is.
-#[derive(Clone, Copy)]
+#[derive(Clone, Copy, PartialEq, Eq, Debug)]
 pub struct Leaf {
     pub physical: PhysicalType,
     // meant for FIXED_LEN_BYTE_ARRAY; other types may carry any length
@@ -38,7 +38,7 @@ pub struct Leaf {
 }
 
 // What an element is.
-#[derive(Clone, Copy)]
+#[derive(Clone, Copy, PartialEq, Eq, Debug)]
 pub enum Kind {
     Group(Option<Annotation>),
     Leaf(Leaf),
@@ -48,15 +48,12 @@ impl Kind {
     pub fn is_group(&self) -> bool
         ensures group { result ≡ is_group self.now }
     {
-        match self {
-            Kind::Group(_) => true,
-            Kind::Leaf(_) => false,
-        }
+        matches!(self, Kind::Group(_))
     }
 }
 
 // A schema element: one row of the element memory.
-#[derive(Clone, Copy)]
+#[derive(Clone, Copy, PartialEq, Eq, Debug)]
 pub struct Element {
     // where the name lies in the name memory
     pub name: Place,

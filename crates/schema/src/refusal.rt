@@ -2,6 +2,9 @@
 ghost use Rattle.std.specs.Prelude.{◌≡◌};
 ghost use Rattle.schema.specs.Refusals.{number_of, element_of};
 
+use std::error::Error;
+use std::fmt;
+
 // One case for each number. The cases 10 to 22 hold the number of the element that they name.
 #[derive(Clone, Copy, PartialEq, Eq, Debug)]
 pub enum Refusal {
@@ -56,7 +59,7 @@ pub enum Refusal {
 }
 
 impl Refusal {
-    // The refusal's number.
+    // The refusal's number, written out: no `as` turns a case with a field into a number.
     pub fn number(self) -> u8
         ensures number { result ≡ number_of self }
     {
@@ -110,3 +113,15 @@ impl Refusal {
         }
     }
 }
+
+impl fmt::Display for Refusal {
+    fn fmt<W: fmt::Write>(&self, f: &mut fmt::Formatter<W>) -> fmt::Result {
+        write!(f, "refused {}", self.number())?;
+        match self.element() {
+            Some(element) => write!(f, " element {element}"),
+            None => Ok(()),
+        }
+    }
+}
+
+impl Error for Refusal {}

@@ -3,13 +3,14 @@ ghost use Rattle.std.specs.Prelude.{◌≡◌, ℕ, ◌+◌, ◌<◌, ◌≤◌,
 ghost use Rattle.schema.specs.Elements.{empty};
 ghost use Rattle.schema.specs.Rows.{plain_group, kind_kept, named_inside, root_kept, row_kept, may_follow, next_kept, rows_kept, depths_of, deeper, sized, sizes_kept};
 
+use crate::draft::MAX_DEPTH;
 use crate::element::{Element, Kind};
 use tree::Row;
 
 fn is_plain(kind: &Kind) -> bool
     ensures { result ≡ plain_group kind.now }
 {
-    matches!(kind, Kind::Group(None))
+    *kind == Kind::Group(None)
 }
 
 fn keeps_kind(kind: &Kind) -> bool
@@ -41,8 +42,7 @@ fn keeps_root(element: &Element, bytes: usize) -> bool
 fn keeps_row(element: &Element, bytes: usize) -> bool
     ensures { result ≡ row_kept bytes element.now }
 {
-    element.depth >= 1
-        && element.depth <= 64
+    (1..=MAX_DEPTH).contains(&element.depth)
         && element.repetition.is_some()
         && keeps_kind(&element.kind)
         && is_inside(element, bytes)
@@ -69,19 +69,20 @@ fn keeps_next(before: &Element, element: &Element, bytes: usize) -> bool
 pub(crate) fn keeps_rows(rows: &[Element], bytes: usize) -> bool
     ensures { result ≡ rows_kept bytes rows.now }
 {
-    let n = rows.len();
-    if n == 0 || n > Element::MOST || !keeps_root(&rows[0], bytes) {
-        return false;
-    }
-    for i in 1..n {
-        if !keeps_next(&rows[i - 1], &rows[i], bytes) {
-            return false;
+    match rows.split_first() {
+        Some((root, rest)) if rows.len() <= Element::MOST => {
+            keeps_root(root, bytes)
+                && rows
+                    .iter()
+                    .zip(rest)
+                    .all(|(before, element)| keeps_next(before, element, bytes))
         }
+        _ => false,
     }
-    true
 }
 
-// Where the subtree of the row at `at` ends, once the rows after it have their sizes: from child to child by their sizes.
+// Where the subtree of the row at `at` ends, once the rows after it have their sizes: from child to child by their sizes,
+// a step that differs each time, so by a `while`. `take_while` over the depths would pass every row once for each row above it.
 fn end_of_subtree(rows: &[Element], at: usize) -> usize
     requires at { at < length rows.now }
     requires known { drop (at + 1) rows.now ≡ sized (drop (at + 1) rows.now) }
@@ -95,7 +96,8 @@ fn end_of_subtree(rows: &[Element], at: usize) -> usize
     end
 }
 
-// Gives each row its size, from the last row back, so that each row is passed once as a child.
+// Gives each row its size, from the last row back, so that each row is passed once as a child. A loop over places: the
+// size that is written is looked for in the rows after it, which no `iter_mut` lends beside it.
 pub(crate) fn fill_sizes(rows: &mut [Element])
     ensures { rows.new ≡ sized rows.old }
 {
@@ -105,7 +107,8 @@ pub(crate) fn fill_sizes(rows: &mut [Element])
     }
 }
 
-// Whether each row's size is the one that the depths give, from the last row back as above.
+// Whether each row's size is the one that the depths give, from the last row back as above. A loop, and no `all`: that a
+// subtree's end may be asked for rests on the answers before, of which a closure's clause cannot speak.
 pub(crate) fn keeps_sizes(rows: &[Element]) -> bool
     ensures { result ≡ sizes_kept rows.now }
 {

@@ -1,7 +1,7 @@
 use Rattle.std.proofs.Common.{◌≡◌, ◌+◌, ◌-◌, ◌≤◌, length, get_or, drop, subst, arith, rules}
 use Rattle.std.proofs.lemmas.List.{drop-drop}
 use Rattle.schema.specs.Elements.{empty}
-use Rattle.schema.proofs.Steps.{Known, known_drop, size_known, size_fits, jump, run_stops, run_ends}
+use Rattle.schema.proofs.Steps.{Known, known_drop, size_known, size_fits, jump}
 use Rattle.schema.proofs.rows.end_of_subtree.Goals as goal
 
 known_at : (c : goal.Then-rows-end) → Known (drop c.loop-end.end c.args.rows.now)
@@ -25,13 +25,3 @@ loop-end-smaller c =
 
 pub overflow_add-end-in-loop-end : goal.overflow_add-end-in-loop-end
 overflow_add-end-in-loop-end c = let h = fits_at c in search rules
-
-pub returns-else-rows-end : goal.returns-else-rows-end
-returns-else-rows-end c =
-    let z = run_stops c.args.rows.now c.loop-end.end _ c.loop-end-test.true c.if-rows-end.false in
-    omega (arith, z, c.loop-end.invariant.2)
-
-pub returns-after-loop-end : goal.returns-after-loop-end
-returns-after-loop-end c =
-    let z = run_ends c.args.rows.now c.loop-end.end (get_or c.args.rows.now c.args.at empty).depth c.loop-end-test.false in
-    omega (arith, z, c.loop-end.invariant.2)

@@ -1,17 +1,11 @@
 use Rattle.std.proofs.Common.{◌≡◌, ◌+◌, ◌-◌, drop, sym, ap, ◌∙◌, subst, arith}
-use Rattle.schema.proofs.Steps.{Known, done_from, done_known, fill_more, fill_none}
+use Rattle.schema.proofs.Steps.{Known, done_from, done_known, fill_more}
 use Rattle.schema.proofs.rows.fill_sizes.Goals as goal
 
-pub loop-i-init : goal.loop-i-init
-loop-i-init c = fill_none c.args.rows.now
-
-pub end_of_subtree-requires : goal.end_of_subtree-requires
-end_of_subtree-requires c =
+pub end_of_subtree-requires-clause-known : goal.end_of_subtree-requires-clause-known
+end_of_subtree-requires-clause-known c =
     let n : (c.loop-i.i - 1) + 1 ≡ c.loop-i.i = omega (arith, c.loop-i-test.true) in
-    record {
-      at = omega (arith, c.loop-i-test.true, c.loop-i.auto.i, c.loop-i.auto.rows);
-      known = subst (λ m. Known (drop m c.loop-i.rows)) (sym n) (done_known c.loop-i.i c.args.rows.now c.loop-i.rows c.loop-i.auto.i c.loop-i.invariant);
-    }
+    subst (λ m. Known (drop m c.loop-i.rows)) (sym n) (done_known c.loop-i.i c.args.rows.now c.loop-i.rows c.loop-i.auto.i c.loop-i.invariant)
 
 pub loop-i-preserved : goal.loop-i-preserved
 loop-i-preserved c =

@@ -1,19 +1,12 @@
-use Rattle.std.proofs.Common.{◌+◌, get_or, drop, sym, ap, ◌∙◌, arith}
-use Rattle.schema.specs.Rows.{rest_kept}
-use Rattle.schema.specs.Elements.{empty}
-use Rattle.schema.proofs.Steps.{start_kept, next_step, last_step}
+use Rattle.std.proofs.Common.{◌≡◌, true, false, rules}
+use borrow.Author.Tests.{tests}
+use Rattle.std.proofs.lemmas.Iterator.{cases_from_all, YieldsList-from_slice, YieldsList-from_zip}
+use Rattle.schema.specs.Rows.{next_kept}
+use Rattle.schema.proofs.Steps.{rows_from_pairs}
 use Rattle.schema.proofs.rows.keeps_rows.Goals as goal
 
-pub loop-i-init : goal.loop-i-init
-loop-i-init c = start_kept c.args.bytes c.args.rows.now (omega (arith, c.if-n-eq0.false)) c.if-n-gt-MOST.false (sym c.if-not-keeps_root.ensures)
-
-pub returns-then-not-keeps_next : goal.returns-then-not-keeps_next
-returns-then-not-keeps_next c = sym (c.loop-i.invariant ∙ next_step c.args.bytes c.args.rows.now c.loop-i.i _ _ c.loop-i-test.true c.if-not-keeps_next.ensures)
-
-pub loop-i-preserved : goal.loop-i-preserved
-loop-i-preserved c =
-    c.loop-i.invariant ∙ next_step c.args.bytes c.args.rows.now c.loop-i.i _ _ c.loop-i-test.true c.if-not-keeps_next.ensures
-    ∙ ap (λ n. rest_kept c.args.bytes (get_or c.args.rows.now n empty) (drop (c.loop-i.i + 1) c.args.rows.now)) (omega arith)
-
-pub returns : goal.returns
-returns c = sym (c.loop-i.invariant ∙ last_step c.args.bytes c.args.rows.now c.loop-i.i _ c.loop-i-test.false)
+pub returns-then-keeps_root : goal.returns-then-keeps_root
+returns-then-keeps_root c =
+    rows_from_pairs c.args.bytes c.args.rows.now c.in-Some.rest.now c.in-Some.root.now c.all.result (search rules) c.if-rows-le-MOST.true c.if-keeps_root.ensures
+    (cases_from_all c.all.new.self _ _ (λ p. next_kept c.args.bytes p.0 p.1 ≡ true) (λ p. next_kept c.args.bytes p.0 p.1 ≡ false) c.all.ensures.ran
+    (YieldsList-from_zip (YieldsList-from_slice c.args.rows.now cc) (YieldsList-from_slice c.in-Some.rest.now cc)) (λ x q k. search (rules, tests)) (λ x q k. search (rules, tests)))

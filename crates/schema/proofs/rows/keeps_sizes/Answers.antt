@@ -1,21 +1,14 @@
 use Rattle.std.proofs.Common.{◌≡◌, ℕ, ◌+◌, ◌-◌, ◌<◌, ◌≤◌, true, eqb, length, get_or, drop, sym, ap, ◌∙◌, arith}
-use Rattle.std.proofs.lemmas.List.{drop_all}
-use Rattle.std.proofs.lemmas.Bool.{eq-eqb, ne_eqb}
+use Rattle.std.proofs.lemmas.Bool.{ne_eqb}
 use Rattle.schema.specs.Elements.{empty}
 use Rattle.schema.specs.Rows.{sizes_kept, deeper, depths_of}
 use Rattle.schema.proofs.Steps.{known_from_kept, sizes_wrong, sizes_step}
 use Rattle.schema.proofs.rows.keeps_sizes.Goals as goal
 
-pub loop-i-init : goal.loop-i-init
-loop-i-init c = ap sizes_kept (drop_all (length c.args.rows.now) c.args.rows.now (omega arith))
-
-pub end_of_subtree-requires : goal.end_of_subtree-requires
-end_of_subtree-requires c =
+pub end_of_subtree-requires-clause-known : goal.end_of_subtree-requires-clause-known
+end_of_subtree-requires-clause-known c =
     let n : (c.loop-i.i - 1) + 1 ≡ c.loop-i.i = omega (arith, c.loop-i-test.true) in
-    record {
-      at = omega (arith, c.loop-i-test.true, c.loop-i.auto.i);
-      known = known_from_kept (drop ((c.loop-i.i - 1) + 1) c.args.rows.now) (ap (λ m. sizes_kept (drop m c.args.rows.now)) n ∙ c.loop-i.invariant);
-    }
+    known_from_kept (drop ((c.loop-i.i - 1) + 1) c.args.rows.now) (ap (λ m. sizes_kept (drop m c.args.rows.now)) n ∙ c.loop-i.invariant)
 
 -- the test at the row before, by what its size should be
 tested : (xs : _) (i end : ℕ) → 0 < i → i ≤ length xs → sizes_kept (drop i xs) ≡ true → end ≡ (i - 1 + 1) + deeper (get_or xs (i - 1) empty).depth (depths_of (drop (i - 1 + 1) xs))
@@ -29,8 +22,3 @@ pub returns-then-rows-i : goal.returns-then-rows-i
 returns-then-rows-i c =
     let t = tested c.args.rows.now c.loop-i.i c.end_of_subtree.result c.loop-i-test.true c.loop-i.auto.i c.loop-i.invariant c.end_of_subtree.ensures in
     sym (sizes_wrong (c.loop-i.i - 1) c.args.rows.now (t ∙ ne_eqb _ _ c.if-rows-i.true))
-
-pub loop-i-preserved : goal.loop-i-preserved
-loop-i-preserved c =
-    let t = tested c.args.rows.now c.loop-i.i c.end_of_subtree.result c.loop-i-test.true c.loop-i.auto.i c.loop-i.invariant c.end_of_subtree.ensures in
-    t ∙ eq-eqb _ _ c.if-rows-i.false

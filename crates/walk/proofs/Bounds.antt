@@ -63,7 +63,7 @@ no_repetition bytes e h =
   where
     go : (o : Option Repetition) → is_none o ≡ true → o ≡ None
     go None z = refl
-    go (Some r) z = absurd (let y : ◌≡◌ {A = ℕ} 0 1 = cc in omega arith)
+    go (Some r) z = cc
 
 pub levels_bounded : LevelsBounded
 levels_bounded chosen names bytes t table s =

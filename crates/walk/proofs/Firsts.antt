@@ -1,5 +1,5 @@
 -- The first of what the roles and checks refuse is the first fault.
-use Rattle.std.proofs.Common.{◌≡◌, ℕ, Bool, true, false, cond, not, ◌&&◌, ◌||◌, eqb, List, [], ◌∷◌, ◌++◌, Some, None, Option, sym, refl, ap, ◌∙◌, subst, ap₂, arith}
+use Rattle.std.proofs.Common.{◌≡◌, ℕ, Bool, true, false, cond, not, ◌&&◌, ◌||◌, eqb, List, [], ◌∷◌, ◌++◌, Some, None, Option, sym, refl, ap, ◌∙◌, subst, ap₂}
 use Rattle.std.specs.Str.{bytes_eq}
 use Rattle.arrow.specs.declared.types.ArrowType.{ArrowType}
 use Rattle.walk.specs.Faults.{Typing, checks, group_checks, leaf_hint, map_checks, name_checks, own_checks, struct_checks, type_checks, unless, wrap_checks}
@@ -28,13 +28,10 @@ abbrev pub head : {A : Type 0} → List A → Option A
 head [] = None
 head (x ∷ xs) = Some x
 
-clash : {A B : Type 0} (x : A) → None ≡ Some x → B
-clash x e = absurd (let z : ◌≡◌ {A = ℕ} 0 1 = cc in omega arith)
-
 pub heads : {A : Type 0} (xs ys us vs : List A) → head xs ≡ head ys → head us ≡ head vs → head (xs ++ us) ≡ head (ys ++ vs)
 heads [] [] us vs e k = k
-heads [] (y ∷ ys) us vs e k = clash y e
-heads (x ∷ xs) [] us vs e k = clash x (sym e)
+heads [] (y ∷ ys) us vs e k = cc
+heads (x ∷ xs) [] us vs e k = cc
 heads (x ∷ xs) (y ∷ ys) us vs e k = e
 
 -- ── One element ──

@@ -1,5 +1,6 @@
 -- The ways of the rows follow the paths of the schema: one equation between lists, by induction over the schema.
-use Rattle.std.proofs.Common.{◌≡◌, ℕ, suc, Bool, true, false, cond, not, ◌&&◌, ◌||◌, List, [], ◌∷◌, ◌++◌, map, ℤ, filter, Option, sym, refl, ap, ◌∙◌, ap₂, append_assoc, append-nil, arith}
+use Rattle.std.proofs.Common.{◌≡◌, ℕ, suc, Bool, true, false, cond, not, ◌&&◌, List, [], ◌∷◌, ◌++◌, map, ℤ, filter, Option, sym, refl, ap, ◌∙◌, ap₂, append_assoc, append-nil}
+use Rattle.std.proofs.lemmas.Bool.{or_parts}
 use mathlib.Core.List.{map-append}
 use Rattle.std.specs.List.{flat_map}
 use Rattle.std.proofs.lemmas.List.Elements.{filter-append}
@@ -81,12 +82,6 @@ abbrev pub Owing : Bool → Forest Read → Type 0
 Owing p bare = Unit {0}
 Owing p (plant x below after) =
     (p ≡ true → x.of.repetition ≡ repeated) × Owing (passes_null (has_own x.role) x.of.repetition) below × Owing p after
-
-no_required : (true ≡ true → required ≡ repeated) → ⊥
-no_required h = let e : required ≡ repeated = h refl in let z : ◌≡◌ {A = ℕ} 0 1 = cc in omega arith
-
-no_optional : (true ≡ true → optional ≡ repeated) → ⊥
-no_optional h = let e : optional ≡ repeated = h refl in let z : ◌≡◌ {A = ℕ} 0 1 = cc in omega arith
 
 -- ── Rows round rows ──
 
@@ -172,8 +167,8 @@ module _ (n l : ℕ) (a : Aside) (k : Kind) (role : Role) (below : Forest Read) 
   step i true optional false h q = refl
   step i false repeated false h q = refl
   step i true repeated false h q = refl
-  step i o required true h q = absurd (no_required h)
-  step i o optional true h q = absurd (no_optional h)
+  step i o required true h q = let e : required ≡ repeated = h refl in cc
+  step i o optional true h q = let e : optional ≡ repeated = h refl in cc
   step i false repeated true h q = refl
   step i true repeated true h q = refl
 
@@ -184,8 +179,8 @@ module _ (n l : ℕ) (a : Aside) (k : Kind) (role : Role) (below : Forest Read) 
   leaf_step true required false h = refl
   leaf_step true optional false h = refl
   leaf_step true repeated false h = refl
-  leaf_step true required true h = absurd (no_required h)
-  leaf_step true optional true h = absurd (no_optional h)
+  leaf_step true required true h = let e : required ≡ repeated = h refl in cc
+  leaf_step true optional true h = let e : optional ≡ repeated = h refl in cc
   leaf_step true repeated true h = refl
 
 module _ (chosen : ℕ → Bool) where
@@ -204,10 +199,6 @@ module _ (chosen : ℕ → Bool) where
   none_under p h = kept_by_none (kept_leaf chosen) (under p) (λ w. ap (λ (b : Bool). (not b && clear chosen w.above) && chosen w.end.node.of.leaf_number) h)
 
   -- ── What does not yield has no leaf that is kept ──
-
-  or_parts : (a b : Bool) → (a || b) ≡ false → (a ≡ false) × (b ≡ false)
-  or_parts true b e = absurd (let z : ◌≡◌ {A = ℕ} 0 1 = cc in omega arith)
-  or_parts false b e = (refl, e)
 
   module _ (p : Spot Read) where
     abbrev some : Bool
@@ -228,7 +219,7 @@ module _ (chosen : ℕ → Bool) where
       where
         go : (b c : Bool) → some ≡ b → both ≡ c → (c && b) ≡ false
             → filter (kept_leaf chosen) (map (under p) (ways leaf_spot (spots p.below))) ≡ []
-        go true true es ec z = absurd (let a : ◌≡◌ {A = ℕ} 0 1 = cc in omega arith)
+        go true true es ec z = cc
         go true false es ec z = none_under p (e ∙ ap₂ (λ (a b : Bool). not a && b) ec es) (ways leaf_spot (spots p.below))
         go false true es ec z =
             kept_under p (e ∙ ap₂ (λ (a b : Bool). not a && b) ec es) (ways leaf_spot (spots p.below))

@@ -1,5 +1,7 @@
 -- Hints reach elements and fields are told as the laws say.
-use Rattle.std.proofs.Common.{◌≡◌, ℕ, zero, suc, Bool, true, false, not, ◌&&◌, List, [], ◌∷◌, ◌++◌, Some, None, sym, refl, ap, ◌∙◌, subst, ap₂, arith}
+use Rattle.std.proofs.Common.{◌≡◌, ℕ, zero, suc, Bool, true, false, not, ◌&&◌, List, [], ◌∷◌, ◌++◌, Some, None, sym, refl, ap, ◌∙◌, subst, ap₂}
+use Rattle.std.proofs.lemmas.Bool.{true≢false}
+use Rattle.std.proofs.lemmas.Option.{none-some}
 use Rattle.std.specs.List.{slice_get, AllByRecursion}
 use Rattle.arrow.specs.declared.row.Metadata.{Metadata}
 use Rattle.walk.specs.Faults.{Typing}
@@ -35,8 +37,8 @@ record Told (n : Bool) (u h : Forest Hint) (t : Part) (g : Holder) (k : ℕ) (y 
 told : (n : Bool) (u h : Forest Hint) (t : Part) (g : Holder) (f : Forest Numbered) (k : ℕ) (y : Read)
     → slice_get (roots (hinting n u h (reading t g f))) k ≡ Some y → Told n u h t g k y
 unfolding hinting reading
-told n u h t g bare zero y e = absurd (let z : ◌≡◌ {A = ℕ} 0 1 = cc in omega arith)
-told n u h t g bare (suc k) y e = absurd (let z : ◌≡◌ {A = ℕ} 0 1 = cc in omega arith)
+told n u h t g bare zero y e = absurd (none-some y e)
+told n u h t g bare (suc k) y e = absurd (none-some y e)
 told n u h t g (plant x below after) zero y e =
     let it : Read = with_hint (record { of = x; role = role_of t x below; part = t; holder = held_by t g x; given = nothing }) n u h in
     let same : it ≡ y = cc in
@@ -67,21 +69,18 @@ key_first : (k : ℕ) → is_key (part_after k as_key) ≡ first_of k
 key_first zero = refl
 key_first (suc k) = ap is_key (after_field k)
 
-differ : {A : Type 0} → true ≡ false → A
-differ e = absurd (let z : ◌≡◌ {A = ℕ} 0 1 = cc in omega arith)
-
 held_group : (t : Part) (g : Holder) (x : Numbered) → by_itself t ≡ false → held_by t g x ≡ g
-held_group as_root g x e = differ e
-held_group as_field g x e = differ e
-held_group as_key g x e = differ e
+held_group as_root g x e = cc
+held_group as_field g x e = cc
+held_group as_key g x e = cc
 held_group as_element g x e = refl
 held_group as_middle g x e = refl
 held_group as_entries g x e = refl
 
 field_group : (t : Part) (u h : Forest Hint) → by_itself t ≡ false → field_hint t u h ≡ u
-field_group as_root u h e = differ e
-field_group as_field u h e = differ e
-field_group as_key u h e = differ e
+field_group as_root u h e = cc
+field_group as_field u h e = cc
+field_group as_key u h e = cc
 field_group as_element u h e = refl
 field_group as_middle u h e = refl
 field_group as_entries u h e = refl
@@ -90,14 +89,14 @@ inner_own : (t : Part) (hint : Forest Hint) → by_itself t ≡ true → inner_m
 inner_own as_root hint e = refl
 inner_own as_field hint e = refl
 inner_own as_key hint e = refl
-inner_own as_element hint e = differ (sym e)
-inner_own as_middle hint e = differ (sym e)
-inner_own as_entries hint e = differ (sym e)
+inner_own as_element hint e = cc
+inner_own as_middle hint e = cc
+inner_own as_entries hint e = cc
 
 inner_group : (t : Part) (hint : Forest Hint) → by_itself t ≡ false → inner_metadata t hint ≡ m.None
-inner_group as_root hint e = differ e
-inner_group as_field hint e = differ e
-inner_group as_key hint e = differ e
+inner_group as_root hint e = cc
+inner_group as_field hint e = cc
+inner_group as_key hint e = cc
 inner_group as_element hint e = refl
 inner_group as_middle hint e = refl
 inner_group as_entries hint e = refl
@@ -167,7 +166,7 @@ module _ (n : Bool) (u h : Forest Hint) (t : Part) (g : Holder) (x : Numbered) (
 
     -- only the children of a LIST or MAP group are not read by themselves
     never : (k : ℕ) (y : Read) {A : Type 0} → Child here k y → by_itself y.part ≡ false → by_itself part_below ≡ true → A
-    never k y c e own_part = let r = child_told k y c in differ (sym own_part ∙ sym (after_itself k part_below) ∙ ap by_itself (sym r.part) ∙ e)
+    never k y c e own_part = let r = child_told k y c in absurd (true≢false (sym own_part ∙ sym (after_itself k part_below) ∙ ap by_itself (sym r.part) ∙ e))
 
 fields_at : (n : Bool) (u h : Forest Hint) (t : Part) (g : Holder) (x : Numbered) (below : Forest Numbered) (typing : Typing)
     → FieldsBelow typing (here n u h t g x below)

@@ -1,5 +1,6 @@
 -- The leaves of a schema are those of a listing.
 use Rattle.std.proofs.Common.{◌≡◌, ℕ, suc, ◌+◌, Bool, true, false, cond, not, List, [], ◌∷◌, ◌++◌, map, length, drop, filter, sym, refl, ap, ◌∙◌, ap₂, append_assoc, append-nil, add-one, arith, length-append}
+use Rattle.std.proofs.lemmas.Bool.{not-true}
 use mathlib.Core.List.{map-append}
 use Rattle.std.specs.List.{range_with_len}
 use Rattle.std.proofs.lemmas.List.Elements.{filter-append}
@@ -42,21 +43,17 @@ module _ {A : Type 0} (is : A → Bool) where
 
 -- ── Leaves by their places ──
 
-kinds_same : (k : Kind) → is_leaf k ≡ not (is_group k)
+pub kinds_same : (k : Kind) → is_leaf k ≡ not (is_group k)
 kinds_same (leaf l) = refl
 kinds_same (group a) = refl
 
 ends_labels : (names : List ℕ) (d n k : ℕ) (f : Forest Element) → ByDepth d f → Ends leaf_node (numbered n k (relabel (shown_as names) f))
 ends_labels names d n k bare t = tt
 ends_labels names d n k (plant e below after) t = (
-  (λ h. ap (λ (g : Forest Element). numbered (n + 1) k (relabel (shown_as names) g)) (t.1 (group_no e.kind h))),
+  (λ h. ap (λ (g : Forest Element). numbered (n + 1) k (relabel (shown_as names) g)) (t.1 (not-true (is_group e.kind) (sym (kinds_same e.kind) ∙ h)))),
   ends_labels names (d + 1) (n + 1) k below t.2,
   ends_labels names d (n + 1 + count (relabel (shown_as names) below)) (k + cond (is_leaf e.kind) 1 (leaf_count (relabel (shown_as names) below))) after t.3,
 )
-  where
-    group_no : (k : Kind) → is_leaf k ≡ true → is_group k ≡ false
-    group_no (leaf l) h = refl
-    group_no (group a) h = absurd (let z : ◌≡◌ {A = ℕ} 0 1 = cc in omega arith)
 
 module _ (names : List ℕ) (elements : List Element) where
   abbrev number : Numbered → ℕ

@@ -2,7 +2,6 @@
 use Rattle.std.proofs.Common.{◌≡◌, suc, ◌+◌, Bool, true, false, cond, List, [], ◌∷◌, ◌++◌, map, length, filter, sym, refl, ap, ◌∙◌, ap₂, append_assoc, length-append}
 use mathlib.Core.List.{map-append}
 use lib.ListN.{length-map}
-use Rattle.std.specs.List.{flat_map}
 use Rattle.walk.specs.Forests.{Way, beside, relabel, straight, under, ways}
 use Rattle.walk.specs.Laws.{Paired}
 use Rattle.tree.specs.Forest.{Forest, count, listing}
@@ -35,10 +34,6 @@ ways_beside {A} is (plant a below after) g =
 pub map_twice : {A B C : Type 0} (f : B → C) (g : A → B) (h : A → C) → ((x : A) → f (g x) ≡ h x) → (xs : List A) → map f (map g xs) ≡ map h xs
 map_twice f g h e [] = refl
 map_twice f g h e (x ∷ xs) = λ i. e x i ∷ map_twice f g h e xs i
-
-pub joined_map : {A B C : Type 0} (g : B → List C) (f : A → B) (xs : List A) → flat_map g (map f xs) ≡ flat_map (λ x. g (f x)) xs
-joined_map g f [] = refl
-joined_map {C = C} g f (x ∷ xs) = ap (λ (l : List C). g (f x) ++ l) (joined_map g f xs)
 
 pub paired_map : {A B C : Type 0} (f : A → B) (R : B → C → Type 0) (xs : List A) (ys : List C) → Paired (λ x y. R (f x) y) xs ys → Paired R (map f xs) ys
 paired_map f R [] [] p = tt

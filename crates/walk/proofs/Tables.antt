@@ -1,7 +1,7 @@
 -- Levels on flat tables.
 use Rattle.std.proofs.Common.{◌≡◌, ℕ, zero, suc, ◌+◌, ◌-◌, ◌<◌, ◌≤◌, Bool, true, false, cond, ltb, List, [], ◌∷◌, ◌++◌, map, length, get_or, Some, None, Option, sym, refl, ap, ◌∙◌, subst, ap₂, append-nil, arith}
 use mathlib.Core.List.{map-append}
-use Rattle.std.proofs.lemmas.Bool.{cond-true}
+use Rattle.std.proofs.lemmas.Bool.{cond-true, false≢true}
 use Rattle.tree.proofs.Ancestors.{ancestors, holds_yes}
 use Rattle.columns.proofs.Paths.{root_size}
 use Rattle.arrow.specs.declared.row.LeafNumbers.{LeafNumbers}
@@ -17,7 +17,7 @@ use Rattle.walk.proofs.Once.{kept_among}
 use Rattle.walk.proofs.Tidy.{Tidy, tidy_rows}
 use Rattle.walk.specs.Flat.{LevelsRead, SizedRow, blank_row, path_repetitions, result_at, size_of, table_of, way_of, with_sizes}
 use Rattle.walk.specs.Forests.{Spot, Way, along, on_way, relabel, ways}
-use Rattle.walk.specs.Labels.{Numbered, numbered, numbered_as, or_required, shown_tree}
+use Rattle.walk.specs.Labels.{Numbered, is_repeated, numbered, numbered_as, or_required, shown_tree}
 use Rattle.walk.specs.Laws.{FlatLevels, Paired, RowsLieFlat, full_row, kept_leaves, shaped_row, unnumbered}
 use Rattle.walk.specs.Levels.{Among, Belongs, Meaning, OpensEach, OpensOnce, ReadsEach, ReadsOnce, Repeats, Says, definition_level, is_leaf_row, kept_leaf, leaf_row_at, leaf_row_of, leaves, path, repetition_level, row_leaf, spot_repetition}
 use Rattle.walk.specs.Reading.{Read}
@@ -130,7 +130,7 @@ repeats_tail : (rs : List Repetition) (r d : ℕ) → Repeats (required ∷ rs) 
 repeats_tail rs r d b = go b.before b.splits b.level b.stands
   where
     go : (before : List Repetition) → required ∷ rs ≡ before ++ repeated ∷ b.after → suc (repetition_level before) ≡ r → suc (definition_level before) ≡ d → Repeats rs r d
-    go [] e l s = let same : required ≡ repeated = cc in absurd (let z : ◌≡◌ {A = ℕ} 0 1 = cc in omega arith)
+    go [] e l s = let same : required ≡ repeated = cc in absurd (false≢true (ap is_repeated same))
     go (q ∷ before) e l s =
         let same : q ≡ required = cc in
         let rest : rs ≡ before ++ repeated ∷ b.after = cc in

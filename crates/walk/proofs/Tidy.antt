@@ -1,5 +1,6 @@
 -- No rows lie below a leaf row; so the leaf rows of the flat result are the ends of the ways.
-use Rattle.std.proofs.Common.{◌≡◌, ℕ, Bool, true, false, cond, ◌&&◌, ◌||◌, List, [], ◌∷◌, ◌++◌, map, filter, sym, refl, ap, ◌∙◌, subst, ap₂, append-nil, arith}
+use Rattle.std.proofs.Common.{◌≡◌, ℕ, Bool, true, false, cond, ◌&&◌, ◌||◌, List, [], ◌∷◌, ◌++◌, map, filter, sym, refl, ap, ◌∙◌, subst, ap₂, append-nil}
+use Rattle.std.proofs.lemmas.Bool.{false≢true}
 use mathlib.Core.List.{map-append}
 use Rattle.std.proofs.lemmas.List.Elements.{filter-append}
 use Rattle.walk.proofs.Follow.{Groups, groups_of, made_leaf}
@@ -96,13 +97,10 @@ tidy_beside : (f g : Forest Made) → Tidy f → Tidy g → Tidy (beside f g)
 tidy_beside bare g a b = b
 tidy_beside (plant r below after) g a b = (a.0, a.1, tidy_beside after g a.2 b)
 
-differ : {A : Type 0} → false ≡ true → A
-differ e = absurd (let z : ◌≡◌ {A = ℕ} 0 1 = cc in omega arith)
-
 tidy_over : (rs : List Made) → Groups rs → (f : Forest Made) → Tidy f → Tidy (over rs f)
 tidy_over rs g bare t = tt
 tidy_over [] g (plant r below after) t = t
-tidy_over (q ∷ rs) g (plant r below after) t = ((λ e. differ (sym g.0 ∙ e)), tidy_over rs g.1 (plant r below after) t, tt)
+tidy_over (q ∷ rs) g (plant r below after) t = ((λ e. absurd (false≢true (sym g.0 ∙ e))), tidy_over rs g.1 (plant r below after) t, tt)
 
 tidy_leaf : (c : Bool) (x : Read) (r : Repetition) (v : Levels) → Tidy (leaf_part c x r v)
 tidy_leaf true x r v = ((λ _. refl), tt, tt)

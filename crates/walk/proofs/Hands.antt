@@ -1,5 +1,6 @@
 -- Hints reach elements and fields are told as the laws say.
-use Rattle.std.proofs.Common.{◌≡◌, ℕ, zero, suc, Bool, true, false, not, ◌&&◌, List, [], ◌∷◌, ◌++◌, Some, None, sym, refl, ap, ◌∙◌, subst, ap₂}
+use Rattle.std.proofs.Common.{◌≡◌, ℕ, zero, suc, Bool, true, false, not, ◌&&◌, [], Some, None, sym, refl, ap, ◌∙◌, subst, ap₂}
+use Rattle.walk.proofs.Lists.{all_append}
 use Rattle.std.proofs.lemmas.Bool.{true≢false}
 use Rattle.std.proofs.lemmas.Option.{none-some}
 use Rattle.std.specs.List.{slice_get, AllByRecursion}
@@ -200,10 +201,6 @@ fields_at n u h t g x below typing =
     of_part as_entries k y c e not_root row = never n u h as_entries g x below typing k y c e refl
 
 -- ── All elements ──
-
-all_append : {A : Type 0} (P : A → Type 0) (xs ys : List A) → AllByRecursion P xs → AllByRecursion P ys → AllByRecursion P (xs ++ ys)
-all_append P [] ys p q = q
-all_append P (x ∷ xs) ys p q = (p.0, all_append P xs ys p.1 q)
 
 module _ (P : Spot Read → Type 0)
     (each : (n : Bool) (u h : Forest Hint) (t : Part) (g : Holder) (x : Numbered) (below : Forest Numbered) → P (here n u h t g x below)) where

@@ -5,13 +5,13 @@ use mathlib.Core.List.{map-append, nil≢cons}
 use Rattle.std.proofs.lemmas.Bool.{eq-eqb}
 use Rattle.std.specs.List.{flat_map}
 use Rattle.walk.proofs.Follow.{Sum, fact, follow, levels_from, made_leaf, openings_from, readings_from, sum_of}
-use Rattle.walk.proofs.Lists.{count_relabel, kept_by_map, listing_relabel, map_twice, paired_map}
+use Rattle.walk.proofs.Lists.{count_relabel, ends_listing, kept_by_map, listing_relabel, map_twice, paired_map}
 use Rattle.walk.proofs.Numbers.{ways_relabel}
 use Rattle.walk.proofs.Once.{once}
 use Rattle.walk.proofs.Order.{few_rows}
 use Rattle.walk.proofs.Owed.{owing_none}
 use Rattle.walk.proofs.Paths.{def_from, found, means, of_level, of_opening, opened, opening, rep_from}
-use Rattle.walk.proofs.Tidy.{leaf_listing, tidy_rows}
+use Rattle.walk.proofs.Tidy.{tidy_rows}
 use Rattle.walk.specs.Forests.{Spot, Way, along, on_way, ways}
 use Rattle.walk.specs.Labels.{numbered}
 use Rattle.walk.specs.Laws.{DefinitionLevelsOnce, LeafRows, Leveled, Paired, RepetitionLevelsOnce, TwoRowsAnElement, kept_leaves}
@@ -101,7 +101,7 @@ pub leaf_rows : LeafRows
 leaf_rows chosen t =
     ap (filter row_leaf) (listing_relabel made_row (rows chosen t))
     ∙ kept_by_map row_leaf made_leaf made_row (λ r. refl) (listing (rows chosen t))
-    ∙ ap (map made_row) (leaf_listing (rows chosen t) (tidy_rows chosen t))
+    ∙ ap (map made_row) (sym (ends_listing made_leaf (rows chosen t) (tidy_rows chosen t)))
     ∙ map_twice made_row (λ (w : Way Made). w.end) (λ (w : Way Made). w.end.row) (λ w. refl) (ways made_leaf (rows chosen t))
     ∙ sym (map_twice (λ (s : Sum). s.row) sum_of (λ (w : Way Made). w.end.row) (λ w. refl) (ways made_leaf (rows chosen t)))
     ∙ ap (map (λ (s : Sum). s.row)) (whole chosen t)

@@ -1,5 +1,5 @@
 -- No row's repetition level is above its definition level; and the elements that are read are the schema's.
-use Rattle.std.proofs.Common.{◌≡◌, ℕ, suc, ◌+◌, ◌*◌, ◌≤◌, Bool, true, false, List, [], ◌∷◌, length, None, ap, arith}
+use Rattle.std.proofs.Common.{◌≡◌, ℕ, suc, ◌+◌, ◌*◌, ◌≤◌, Bool, true, false, List, [], ◌∷◌, length, None, ap, arith, length-append}
 use Rattle.std.specs.List.{AllByRecursion}
 use Rattle.walk.proofs.Lists.{all_append, all_back, all_front, count_plant, sides_either}
 use Rattle.walk.proofs.Numbers.{count_numbered, count_reading, height_numbered, height_reading}
@@ -121,12 +121,8 @@ few_wrap x i optional v p = omega arith
 few_wrap x i repeated v p = omega arith
 
 few_group : (x : Read) (i : Items) (o : Bool) (r : Repetition) (v : Levels) (p : Bool) → length (group_rows x i o r v p) ≤ 2
-few_group x i true required v p = omega arith
-few_group x i true optional v p = omega arith
-few_group x i true repeated v p = omega arith
-few_group x i false required v p = omega arith
-few_group x i false optional v p = omega arith
-few_group x i false repeated v p = omega arith
+few_group x i true r v p = omega (arith, length-append (wrap x i r v p) (struct_part x true r v), few_wrap x i r v p)
+few_group x i false r v p = omega (arith, length-append (wrap x i r v p) [], few_wrap x i r v p)
 
 few_leaf : (c : Bool) (x : Read) (r : Repetition) (v : Levels) → count (leaf_part c x r v) ≤ 1
 few_leaf true x r v = omega arith

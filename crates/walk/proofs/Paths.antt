@@ -48,36 +48,37 @@ pub record Found (n : ℕ) (rs : List Repetition) (d : ℕ) : Type 0 where
   pub says : Says here meaning
   pub sole : filter (of_level d) (readings_from n rs) ≡ means d meaning ∷ []
 
-here_found : (n d : ℕ) (r : Repetition) (m : Meaning) (rs : List Repetition) → Says r m → n ≡ d
-    → filter (of_level d) (readings_from n (r ∷ rs)) ≡ cond (eqb n d) (means n m ∷ filter (of_level d) (readings_from (suc n) rs)) (filter (of_level d) (readings_from (suc n) rs))
-    → Found n (r ∷ rs) d
-here_found n d r m rs t e k =
-    record {
-      meaning = m;
-      before = [];
-      here = r;
-      after = rs;
-      splits = refl;
-      level = omega arith;
-      says = t;
-      sole = k ∙ rw (eq-eqb n d e) (λ i. means (e i) m ∷ past d (suc n) rs (omega arith) i);
-    }
-
-later_found : (n d : ℕ) (r : Repetition) (m : Meaning) (rs : List Repetition) → definition_level (r ∷ []) ≡ 1 → (n ≡ d → ⊥)
+-- the element before the others reads one level, and a level is found at it or further on
+level_found : (n d : ℕ) (r : Repetition) (m : Meaning) (rs : List Repetition) → Says r m
     → filter (of_level d) (readings_from n (r ∷ rs)) ≡ cond (eqb n d) (means n m ∷ filter (of_level d) (readings_from (suc n) rs)) (filter (of_level d) (readings_from (suc n) rs))
     → ((bs : List Repetition) → definition_level (r ∷ bs) ≡ suc (definition_level bs))
-    → Found (suc n) rs d → Found n (r ∷ rs) d
-later_found n d r m rs t e k c f =
-    record {
-      meaning = f.meaning;
-      before = r ∷ f.before;
-      here = f.here;
-      after = f.after;
-      splits = ap {B = List Repetition} (λ l. r ∷ l) f.splits;
-      level = omega (arith, c f.before, f.level);
-      says = f.says;
-      sole = k ∙ rw (ne_eqb n d e) f.sole;
-    }
+    → n ≤ d → (suc n ≤ d → Found (suc n) rs d) → Found n (r ∷ rs) d
+level_found n d r m rs t k c h more = go (cases_eq n d)
+  where
+    go : (n ≡ d) ⊎ (n ≡ d → ⊥) → Found n (r ∷ rs) d
+    go (inl e) =
+        record {
+          meaning = m;
+          before = [];
+          here = r;
+          after = rs;
+          splits = refl;
+          level = omega arith;
+          says = t;
+          sole = k ∙ rw (eq-eqb n d e) (λ i. means (e i) m ∷ past d (suc n) rs (omega arith) i);
+        }
+    go (inr e) =
+        let f = more (omega arith) in
+        record {
+          meaning = f.meaning;
+          before = r ∷ f.before;
+          here = f.here;
+          after = f.after;
+          splits = ap {B = List Repetition} (λ l. r ∷ l) f.splits;
+          level = omega (arith, c f.before, f.level);
+          says = f.says;
+          sole = k ∙ rw (ne_eqb n d e) f.sole;
+        }
 
 pub found : (n : ℕ) (rs : List Repetition) (d : ℕ) → n ≤ d → d < n + definition_level rs → Found n rs d
 found n [] d h k = absurd (omega arith)
@@ -93,16 +94,8 @@ found n (required ∷ rs) d h k =
       says = f.says;
       sole = f.sole;
     }
-found n (optional ∷ rs) d h k = go (cases_eq n d) (found (suc n) rs d)
-  where
-    go : (n ≡ d) ⊎ (n ≡ d → ⊥) → (suc n ≤ d → d < suc n + definition_level rs → Found (suc n) rs d) → Found n (optional ∷ rs) d
-    go (inl e) r = here_found n d optional absent rs refl e refl
-    go (inr e) r = later_found n d optional absent rs refl e refl (λ bs. refl) (r (omega arith) (omega arith))
-found n (repeated ∷ rs) d h k = go (cases_eq n d) (found (suc n) rs d)
-  where
-    go : (n ≡ d) ⊎ (n ≡ d → ⊥) → (suc n ≤ d → d < suc n + definition_level rs → Found (suc n) rs d) → Found n (repeated ∷ rs) d
-    go (inl e) r = here_found n d repeated no_items rs refl e refl
-    go (inr e) r = later_found n d repeated no_items rs refl e refl (λ bs. refl) (r (omega arith) (omega arith))
+found n (optional ∷ rs) d h k = level_found n d optional absent rs refl refl (λ bs. refl) h (λ l. found (suc n) rs d l (omega arith))
+found n (repeated ∷ rs) d h k = level_found n d repeated no_items rs refl refl (λ bs. refl) h (λ l. found (suc n) rs d l (omega arith))
 
 -- ── Repetition levels ──
 

@@ -54,25 +54,21 @@ wrap_first : (e : ℕ) (w : Bool) (hint : Forest Hint) → wrap_checks e w hint 
 wrap_first e false hint = refl
 wrap_first e true hint = fits_when plain_list hint (no.HintKind e)
 
+-- of two checks the second counts only where the first holds
+two_first : (b c : Bool) (r s : Refusal) → head (unless b r ++ unless c s) ≡ head (when (not b) r ++ when (b && not c) s)
+two_first true true r s = refl
+two_first true false r s = refl
+two_first false c r s = refl
+
 struct_first : (e : ℕ) (hint : Forest Hint) (n : ℕ)
     → head (struct_checks e hint n) ≡ head (when (no_such any_struct hint) (no.HintKind e) ++ when (miscounted n hint) (no.HintFieldCount e))
 struct_first e bare n = refl
-struct_first e (plant h below after) n = go (any_struct (nesting h.type)) (eqb (trees below) n)
-  where
-    go : (b c : Bool) → head (unless b (no.HintKind e) ++ unless c (no.HintFieldCount e)) ≡ head (when (not b) (no.HintKind e) ++ when (b && not c) (no.HintFieldCount e))
-    go true true = refl
-    go true false = refl
-    go false c = refl
+struct_first e (plant h below after) n = two_first (any_struct (nesting h.type)) (eqb (trees below) n) (no.HintKind e) (no.HintFieldCount e)
 
 map_first : (e : ℕ) (hint : Forest Hint)
     → head (map_checks e hint) ≡ head (when (no_such any_map hint) (no.HintKind e) ++ when (not_over_two hint) (no.HintMap e))
 map_first e bare = refl
-map_first e (plant h below after) = go (any_map (nesting h.type)) (over_two (plant h below after))
-  where
-    go : (b c : Bool) → head (unless b (no.HintKind e) ++ unless c (no.HintMap e)) ≡ head (when (not b) (no.HintKind e) ++ when (b && not c) (no.HintMap e))
-    go true true = refl
-    go true false = refl
-    go false c = refl
+map_first e (plant h below after) = two_first (any_map (nesting h.type)) (over_two (plant h below after)) (no.HintKind e) (no.HintMap e)
 
 own_first : (e : ℕ) (w : Bool) (hint : Forest Hint) (n : ℕ) → head (group_checks e own w hint n) ≡ head (struct_faults e w hint n)
 own_first e w hint n =

@@ -157,6 +157,14 @@ module _ (n : Bool) (u h : Forest Hint) (t : Part) (g : Holder) (x : Numbered) (
             (r.hint ∙ ap (λ (z : Role). nth_hint k (hands_on z (wrapped t x.repetition) (sole h))) e, r.named ∙ ap compares_names e);
       }
 
+  -- the field of a child, by its part
+  part_field : (s : Part) (k : ℕ) (y : Read) → Child here k y → y.part ≡ s → (null : Bool)
+      → held_field y.holder y.given.field null ≡ held_field (held_by s its_holder y.of) (field_hint s up y.given.hint) null
+  part_field s k y c e null =
+      let r = child_told k y c in
+      ap₂ (λ (a : Holder) (b : Forest Hint). held_field a b null)
+      (r.holder ∙ ap (λ (z : Part). held_by z its_holder y.of) e) (r.field ∙ ap (λ (z : Part). field_hint z up y.given.hint) e)
+
   module _ (typing : Typing) where
     -- the repeated child of a group that is a field or a key
     group_field : (k : ℕ) (y : Read) → Child here k y → by_itself y.part ≡ false → (null : Bool) → (held_field y.holder y.given.field null ≡ held_field its_holder up null)
@@ -173,16 +181,8 @@ fields_at : (n : Bool) (u h : Forest Hint) (t : Part) (g : Holder) (x : Numbered
     → FieldsBelow typing (here n u h t g x below)
 fields_at n u h t g x below typing =
     record {
-      field = λ k y c e row.
-          let r = child_told n u h t g x below k y c in
-          ap₂ (λ (a : Holder) (b : Forest Hint). held_field a b row.nullable)
-          (r.holder ∙ ap (λ (z : Part). held_by z (its_holder n u h t g x below) y.of) e)
-          (r.field ∙ ap (λ (z : Part). field_hint z (up n u h t g x below) y.given.hint) e);
-      key = λ k y c e row.
-          let r = child_told n u h t g x below k y c in
-          ap₂ (λ (a : Holder) (b : Forest Hint). held_field a b row.nullable)
-          (r.holder ∙ ap (λ (z : Part). held_by z (its_holder n u h t g x below) y.of) e)
-          (r.field ∙ ap (λ (z : Part). field_hint z (up n u h t g x below) y.given.hint) e);
+      field = λ k y c e row. part_field n u h t g x below as_field k y c e row.nullable;
+      key = λ k y c e row. part_field n u h t g x below as_key k y c e row.nullable;
       sides = λ e k y c.
           let r = child_told n u h t g x below k y c in
           ap is_key r.part ∙ ap (λ (z : Role). is_key (part_after k (child_part z x.name below))) e ∙ key_first k;

@@ -4,7 +4,7 @@ use Rattle.std.proofs.lemmas.List.Elements.{filter-append}
 use Rattle.std.specs.List.{AllByRecursion}
 use mathlib.Core.List.{map-append}
 use lib.ListN.{length-map}
-use Rattle.walk.specs.Forests.{Way, beside, height, relabel, straight, under, ways}
+use Rattle.walk.specs.Forests.{Spot, Way, beside, height, relabel, spots, straight, under, ways}
 use Rattle.walk.specs.Shape.{both_sides}
 use Rattle.walk.specs.declared.role.Role.{Role}
 use Rattle.walk.specs.declared.role.Role.TheVariants.{Broken as broken, Entries as entries, Listed as listed, Mapped as mapped, Middle as middle, Own as own}
@@ -61,6 +61,10 @@ count_relabel f g = ap length (listing_relabel f g) ∙ length-map (listing g) f
 pub height_relabel : {A B : Type 0} (f : A → B) (g : Forest A) → height (relabel f g) ≡ height g
 height_relabel f bare = refl
 height_relabel f (plant a below after) = ap₂ (λ (x y : ℕ). max (suc x) y) (height_relabel f below) (height_relabel f after)
+
+pub relabel_spots : {A B : Type 0} (g : A → B) (f : Forest A) → relabel (λ (p : Spot A). g p.node) (spots f) ≡ relabel g f
+relabel_spots g bare = refl
+relabel_spots g (plant a below after) = λ i. plant (g a) (relabel_spots g below i) (relabel_spots g after i)
 
 -- ── What holds of each of a list ──
 

@@ -1,5 +1,6 @@
 -- The walk is refused with the first fault in walking order.
 use Rattle.std.proofs.Common.{◌≡◌, ℕ, Bool, false, List, [], ◌∷◌, ◌++◌, Some, None, Ok, Err, sym, refl, ap, ◌∙◌, ap₂, append_assoc}
+use Rattle.walk.proofs.Numbers.{relabel_of}
 use mathlib.Core.List.{nil≢cons}
 use Rattle.std.proofs.lemmas.List.Concat.{flat_map-append}
 use Rattle.std.proofs.lemmas.Option.{none-some}
@@ -27,14 +28,13 @@ abbrev Right : Forest Read → Type 0
 Right bare = Unit {0}
 Right (plant x below after) = (x.role ≡ role_of x.part x.of (relabel of_label below)) × Right below × Right after
 
-pub labels_same : (n : Bool) (u h : Forest Hint) (t : Part) (g : Holder) (f : Forest Numbered) → relabel of_label (hinting n u h (reading t g f)) ≡ f
-unfolding hinting reading
-labels_same n u h t g bare = refl
-labels_same n u h t g (plant x below after) =
-    let role = role_of t x below in
-    λ i. plant x
-    (labels_same (compares_names role) (field_hint t u (sole h)) (hands_on role (wrapped t x.repetition) (sole h)) (child_part role x.name below) (held_by t g x) below i)
-    (labels_same n u (others h) (next_part t) g after i)
+labels_same : (n : Bool) (u h : Forest Hint) (f : Forest Read) → relabel of_label (hinting n u h f) ≡ relabel of_label f
+unfolding hinting
+labels_same n u h bare = refl
+labels_same n u h (plant x below after) =
+    λ i. plant x.of
+    (labels_same (compares_names x.role) (field_hint x.part u (sole h)) (hands_on x.role (wrapped x.part x.of.repetition) (sole h)) below i)
+    (labels_same n u (others h) after i)
 
 right : (n : Bool) (u h : Forest Hint) (t : Part) (g : Holder) (f : Forest Numbered) → Right (hinting n u h (reading t g f))
 unfolding hinting reading
@@ -45,7 +45,7 @@ right n u h t g (plant x below after) =
     let u' = field_hint t u (sole h) in
     let h' = hands_on role (wrapped t x.repetition) (sole h) in
     let t' = child_part role x.name below in (
-      ap (role_of t x) (sym (labels_same n' u' h' t' (held_by t g x) below)),
+      ap (role_of t x) (sym (labels_same n' u' h' (reading t' (held_by t g x) below) ∙ relabel_of t' (held_by t g x) below)),
       right n' u' h' t' (held_by t g x) below,
       right n u (others h) (next_part t) g after,
     )

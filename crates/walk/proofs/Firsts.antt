@@ -9,7 +9,7 @@ use Rattle.walk.specs.Hints.{Hint, Nesting, any_list, any_map, any_struct, fits,
 use Rattle.walk.specs.Labels.{Numbered, is_repeated}
 use Rattle.walk.specs.Reading.{Part, Read, by_annotation, entries_role, list_child, list_role, map_child, map_role, role_of}
 use Rattle.walk.specs.Reading.Part.{as_element, as_entries, as_field, as_key, as_middle, as_root}
-use Rattle.walk.specs.Refusing.{by_itself, faults_at, group_faults, hint_faults, list_faults, map_faults, miscounted, misnamed, no_such, not_over_two, of_label, repeated_group, repeated_label, rule_faults, struct_faults, untyped, when}
+use Rattle.walk.specs.Refusing.{by_itself, faults_at, group_faults, hint_faults, list_faults, map_faults, miscounted, misnamed, no_such, not_over_two, repeated_group, repeated_label, rule_faults, struct_faults, untyped, when}
 use Rattle.walk.specs.declared.role.Role.{Role}
 use Rattle.walk.specs.declared.role.Role.TheVariants.{Broken as broken, Listed as listed, Mapped as mapped, Own as own}
 use Rattle.schema.specs.declared.basic.Annotation.{Annotation}
@@ -21,6 +21,9 @@ use Rattle.tree.specs.Forest.{Forest}
 use Rattle.tree.specs.Forest.Forest.{bare, plant}
 use Rattle.schema.specs.declared.basic.Annotation.TheVariants as a
 use Rattle.schema.specs.declared.refusal.Refusal.TheVariants as no
+
+abbrev pub of_label : Read → Numbered
+of_label x = x.of
 
 -- ── The first of a list ──
 

@@ -1,5 +1,6 @@
 -- The ways of the rows follow the paths of the schema: one equation between lists, by induction over the schema.
 use Rattle.std.proofs.Common.{◌≡◌, ℕ, suc, Bool, true, false, cond, not, ◌&&◌, List, [], ◌∷◌, ◌++◌, map, ℤ, filter, Option, sym, refl, ap, ◌∙◌, ap₂, append_assoc, append-nil}
+use Rattle.std.proofs.lemmas.List.Concat.{flat_map-append}
 use Rattle.std.proofs.lemmas.Bool.{or_parts}
 use mathlib.Core.List.{map-append}
 use Rattle.std.specs.List.{flat_map}
@@ -103,15 +104,12 @@ ways_over (r ∷ rs) g (plant a below after) =
     ∙ map_twice (under r) (under_all rs) (under_all (r ∷ rs)) (λ w. refl) (ways made_leaf (plant a below after)))
 
 sum_under : (rs : List Made) (w : Way Made) → sum_of (under_all rs w) ≡ prefixed rs (sum_of w)
-sum_under [] w = refl
-sum_under (r ∷ rs) w =
-    let e = sum_under rs w in
-    let a : flat_map made_reads (along (under_all rs w)) ≡ flat_map made_reads rs ++ flat_map made_reads (along w) = ap (λ (s : Sum). s.reads) e in
-    let b : flat_map made_opens (along (under_all rs w)) ≡ flat_map made_opens rs ++ flat_map made_opens (along w) = ap (λ (s : Sum). s.opens) e in
+sum_under rs w =
+    let e : along (under_all rs w) ≡ rs ++ along w = append_assoc rs w.above (w.end ∷ []) in
     λ i. record {
       row = w.end.row;
-      reads = (ap (λ (m : List Means). made_reads r ++ m) a ∙ sym (append_assoc (made_reads r) (flat_map made_reads rs) (flat_map made_reads (along w)))) i;
-      opens = (ap (λ (m : List Opens). made_opens r ++ m) b ∙ sym (append_assoc (made_opens r) (flat_map made_opens rs) (flat_map made_opens (along w)))) i;
+      reads = (ap (flat_map made_reads) e ∙ flat_map-append made_reads rs (along w)) i;
+      opens = (ap (flat_map made_opens) e ∙ flat_map-append made_opens rs (along w)) i;
     }
 
 -- the sums of the ways of a forest with rows round it

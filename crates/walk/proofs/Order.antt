@@ -26,7 +26,10 @@ abbrev pub Lows : ℕ → Made → Type 0
 Lows most r = Low most r.row
 
 module _ (most : ℕ) where
-  each_beside : (f g : Forest Made) → AllByRecursion (Lows most) (listing f) → AllByRecursion (Lows most) (listing g) → AllByRecursion (Lows most) (listing (beside f g))
+  abbrev AllLow : Forest Made → Type 0
+  AllLow f = AllByRecursion (Lows most) (listing f)
+
+  each_beside : (f g : Forest Made) → AllLow f → AllLow g → AllLow (beside f g)
   each_beside bare g a b = b
   each_beside (plant r below after) g a b = (
     a.0,
@@ -34,7 +37,7 @@ module _ (most : ℕ) where
         (each_beside after g (all_back (Lows most) (listing below) (listing after) a.1) b),
   )
 
-  each_over : (rs : List Made) (f : Forest Made) → AllByRecursion (Lows most) rs → AllByRecursion (Lows most) (listing f) → AllByRecursion (Lows most) (listing (over rs f))
+  each_over : (rs : List Made) (f : Forest Made) → AllByRecursion (Lows most) rs → AllLow f → AllLow (over rs f)
   each_over rs bare a b = tt
   each_over [] (plant x below after) a b = b
   each_over (r ∷ rs) (plant x below after) a b =
@@ -52,19 +55,19 @@ module _ (most : ℕ) where
   each_struct x false r v h = tt
   each_struct x true r v h = (h, tt)
 
-  each_leaf : (c : Bool) (x : Read) (r : Repetition) (v : Levels) → In v → AllByRecursion (Lows most) (listing (leaf_part c x r v))
+  each_leaf : (c : Bool) (x : Read) (r : Repetition) (v : Levels) → In v → AllLow (leaf_part c x r v)
   each_leaf true x r v h = (h, tt)
   each_leaf false x r v h = tt
 
   module _ (chosen : ℕ → Bool) where
     each_element : (k : Kind) (x : Read) (role : Role) (r : Repetition) (v : Levels) (p both : Bool) (inner : Forest Made)
-        → In v → AllByRecursion (Lows most) (listing inner) → AllByRecursion (Lows most) (listing (element_rows chosen k x role r v p both inner))
+        → In v → AllLow inner → AllLow (element_rows chosen k x role r v p both inner)
     each_element (leaf c) x role r v p both inner h a =
         each_over (wrap x of_list r v p) (leaf_part (chosen x.of.leaf_number) x r v) (each_wrap x of_list r v p h) (each_leaf (chosen x.of.leaf_number) x r v h)
     each_element (group n) x role r v p both inner h a =
         each_over (group_rows x (items_of role) (has_own role) r v p) (both_sides role both inner)
         (all_append (Lows most) (wrap x (items_of role) r v p) (struct_part x (has_own role) r v) (each_wrap x (items_of role) r v p h) (each_struct x (has_own role) r v h))
-        (sides_either (λ (f : Forest Made). AllByRecursion (Lows most) (listing f)) role both inner a tt)
+        (sides_either AllLow role both inner a tt)
 
 low_raised : (v : Levels) (r : Repetition) → v.rep ≤ v.def → ((raised v r).rep ≤ (raised v r).def) × ((raised v r).def ≤ suc v.def)
 low_raised v required h = (h, omega arith)
@@ -72,7 +75,7 @@ low_raised v optional h = (omega arith, omega arith)
 low_raised v repeated h = (omega arith, omega arith)
 
 module _ (most : ℕ) (chosen : ℕ → Bool) where
-  ordered : (f : Forest Read) (v : Levels) (p : Bool) → v.rep ≤ v.def → v.def + height f ≤ most → AllByRecursion (Lows most) (listing (shape chosen v p f))
+  ordered : (f : Forest Read) (v : Levels) (p : Bool) → v.rep ≤ v.def → v.def + height f ≤ most → AllLow most (shape chosen v p f)
   unfolding shape
   ordered bare v p h k = tt
   ordered (plant x below after) v p h k =
@@ -88,7 +91,7 @@ module _ (most : ℕ) (chosen : ℕ → Bool) where
 
 -- the root, which is required, adds to no level
 ordered_root : (most : ℕ) (chosen : ℕ → Bool) (x : Read) (below : Forest Read) (v : Levels) (p : Bool) → x.of.repetition ≡ required
-    → v.rep ≤ v.def → v.def + height below ≤ most → AllByRecursion (Lows most) (listing (shape chosen v p (plant x below bare)))
+    → v.rep ≤ v.def → v.def + height below ≤ most → AllLow most (shape chosen v p (plant x below bare))
 unfolding shape
 ordered_root most chosen x below v p e h k =
     let r = x.of.repetition in

@@ -5,7 +5,7 @@ use mathlib.Core.List.{nil≢cons}
 use Rattle.std.proofs.lemmas.List.Concat.{flat_map-append}
 use Rattle.std.proofs.lemmas.Option.{none-some}
 use Rattle.std.specs.List.{flat_map, AllByRecursion}
-use Rattle.walk.proofs.Firsts.{element_first, head, heads}
+use Rattle.walk.proofs.Firsts.{element_first, head, heads, of_label}
 use Rattle.walk.specs.Faults.{Typing, below_group, checks, refusals}
 use Rattle.walk.specs.Forests.{Spot, relabel, trees}
 use Rattle.walk.specs.Handing.{compares_names, field_hint, hands_on, hinting, wrapped}
@@ -14,7 +14,7 @@ use Rattle.walk.specs.Labels.{Numbered, numbered}
 use Rattle.walk.specs.Laws.{RefusedFirst}
 use Rattle.walk.specs.Reading.{Holder, Part, Read, child_part, held_by, next_part, nobody, reading, role_of}
 use Rattle.walk.specs.Reading.Part.{as_root}
-use Rattle.walk.specs.Refusing.{Faultless, FirstFault, below_groups, faults_at, of_label, walked}
+use Rattle.walk.specs.Refusing.{Faultless, FirstFault, below_groups, faults_at, walked}
 use Rattle.walk.specs.Walk.{all_refusals, full_rows, handed, unless_refused}
 use Rattle.schema.specs.declared.element.Kind.{Kind}
 use Rattle.schema.specs.declared.element.Kind.TheVariants.{Group as group, Leaf as leaf}

@@ -1,10 +1,11 @@
 -- The promise, from what every conversion does.
-use Rattle.std.proofs.Common.{◌≡◌, ℕ, ◌*◌, ◌<◌, Bool, true, false, ◌&&◌, ◌||◌, ltb, List, [], ◌∷◌, map, length, get_or, take, Some, None, Ok, Err, filter, Result, sym, refl, ap, ◌∙◌, subst, inl, inr, arith}
+use Rattle.std.proofs.Common.{◌≡◌, ℕ, ◌*◌, ◌<◌, Bool, true, false, ◌&&◌, ltb, List, [], ◌∷◌, map, length, get_or, take, Some, None, Ok, Err, filter, Result, sym, refl, ap, ◌∙◌, subst, inl, inr, arith}
 use Rattle.std.specs.List.{range_with_len, AllByRecursion}
 use Rattle.std.proofs.lemmas.List.FromFn.{take-map-range_with_len, fill_by_all, get_or-map-range_with_len, length-map-range_with_len}
 use Rattle.std.proofs.ByRecursion.{All-get_or}
 use Rattle.std.proofs.lemmas.List.{take_at, get_or_append_left}
-use Rattle.std.proofs.lemmas.Bool.{ltb-false}
+use Rattle.std.proofs.lemmas.Bool.{ltb-false, or_parts, true≢false}
+use Rattle.std.proofs.lemmas.Option.{none-some}
 use Rattle.tree.specs.Forest.{Forest, Tree, Lists, alone, count, listing}
 use Rattle.tree.specs.Forest.Forest.{bare}
 use Rattle.schema.specs.declared.refusal.Refusal.{Refusal}
@@ -30,19 +31,19 @@ use Rattle.walk.specs.Flat.{result_at as table_row}
 use Rattle.walk.specs.Forests.{relabel}
 use Rattle.walk.specs.Hints.{Hint, hints_of}
 use Rattle.walk.specs.Labels.{leaf_count, shown_tree}
-use Rattle.walk.specs.Laws.{full_row, kept_leaves, shaped_row}
+use Rattle.walk.specs.Laws.{full_row, kept_leaves}
 use Rattle.walk.specs.Laws.{Low as LowRow}
 use Rattle.walk.specs.Levels.{is_leaf_row, leaf_row_of, leaves as leaf_ways, row_leaf}
 use Rattle.walk.specs.Faults.{Typing}
 use Rattle.walk.specs.Refusing.{faults_at}
 use Rattle.walk.specs.Results.{line_of, lines, plain_row, read_table}
-use Rattle.walk.specs.Shape.{Row, Shaped, plain_rows, rows, shaped_of}
+use Rattle.walk.specs.Shape.{Row, plain_rows}
 use Rattle.walk.specs.Shape.RowKind.{leaf_row}
 use Rattle.walk.specs.Walk.{Full, leaf_typing, walk, walk_under}
 use Rattle.walk.specs.declared.levels.Levels.{Levels}
 use Rattle.walk.proofs.Bounds.{levels_bounded}
 use Rattle.walk.proofs.Chosen.{same_selection}
-use Rattle.walk.proofs.Hinted.{has_shape, hints_keep_shape, relabel_twice, walk_leveled}
+use Rattle.walk.proofs.Hinted.{hints_keep_shape, plain_shape, walk_leveled}
 use Rattle.walk.proofs.Lists.{listing_relabel}
 use Rattle.walk.proofs.Ordered.{walked_in_order}
 use Rattle.walk.proofs.Refused.{refused_first}
@@ -65,19 +66,12 @@ same_ok e o = cc
 same_err : {A B : Type 0} {a : Result A B} {x y : B} → a ≡ Err x → a ≡ Err y → x ≡ y
 same_err e o = cc
 
-true_not_false : {b : Bool} → b ≡ true → b ≡ false → ⊥
-true_not_false e o = let z : ◌≡◌ {A = ℕ} 0 1 = cc in omega arith
-
 all_unmap : {A B : Type 0} (P : B → Type 0) (f : A → B) (xs : List A) → AllByRecursion P (map f xs) → AllByRecursion (λ x. P (f x)) xs
 all_unmap P f [] t = tt
 all_unmap P f (x ∷ xs) t = (t.0, all_unmap P f xs t.1)
 
 first_of_all : {A : Type 0} (P : A → Type 0) (xs ys : List A) (x : A) → xs ≡ x ∷ ys → AllByRecursion P xs → P x
 first_of_all P xs ys x e t = (subst (AllByRecursion P) e t).0
-
-neither : (a b : Bool) → (a || b) ≡ false → (a ≡ false) × (b ≡ false)
-neither true b e = absurd (true_not_false refl e)
-neither false b e = (refl, e)
 
 hint_forest : {n : ℕ} {rows : List HintRow} → IsHint n rows → (h : Forest HintRow) × Lists hint_span h rows
 hint_forest (inl e) = (bare, record { lists = sym e; sized = tt })
@@ -204,19 +198,16 @@ module _ (c : Conversion) where
     -- R ≤ D ≤ 64
     pub rows_low : AllByRecursion Low (in_use c n)
     rows_low =
-        let plain : relabel full_row d.walk ≡ plain_rows c.chosen tree_shown =
-        sym (relabel_twice (λ (s : Shaped). s.row) shaped_row d.walk)
-        ∙ ap (relabel (λ (s : Shaped). s.row)) (has_shape typing c.chosen hints_given tree_shown d.walk d.walked)
-        ∙ relabel_twice (λ (s : Shaped). s.row) shaped_of (rows c.chosen tree_shown) in
+        let plain : plain_rows c.chosen tree_shown ≡ relabel full_row d.walk = plain_shape typing c.chosen hints_given tree_shown d.walk d.walked in
         subst (AllByRecursion Low) (sym used_is)
         (all_unmap (LowRow 64) plain_row used
-        (subst (AllByRecursion (LowRow 64)) (sym (plain_shown ∙ ap listing plain)) (levels_bounded c.chosen c.names c.schema.bytes fin.0 (counted c) fin.1)))
+        (subst (AllByRecursion (LowRow 64)) (ap listing plain ∙ sym plain_shown) (levels_bounded c.chosen c.names c.schema.bytes fin.0 (counted c) fin.1)))
 
     -- the flags of the leaves
     pub flags_used : take (leaves c) c.flags ≡ map (below (leaves c) c.chosen) (range_with_len 0 (leaves c))
     flags_used =
         ap (take (leaves c)) d.accepted.flags
-        ∙ take-map-range_with_len (below (leaves c) c.chosen) 0 c.flag_room (leaves c) (ltb-false c.flag_room (leaves c) (neither (ltb c.room (2 * c.schema.count)) (ltb c.flag_room (leaves c)) d.roomy).1)
+        ∙ take-map-range_with_len (below (leaves c) c.chosen) 0 c.flag_room (leaves c) (ltb-false c.flag_room (leaves c) (or_parts (ltb c.room (2 * c.schema.count)) (ltb c.flag_room (leaves c)) d.roomy).1)
 
 -- ── Two conversions alike ──
 
@@ -299,14 +290,13 @@ module _ (c : Conversion) (does : Converts c) (h : List Event) (p : Reached h (w
       first_of_all (λ r. element_of r ≡ Some f.here.node.of.number) (faults_at typing c.chosen f.here) f.others e f.first
       ((walked_in_order typing c.chosen (hints_of c.text 0 hints) t).names f.here) in
       let none : element_of e ≡ None = ap element_of (same_err s.answer a) in
-      let z : ◌≡◌ {A = ℕ} 0 1 = cc in
-      omega arith
+      none-some _ (sym none ∙ named)
 
   not_seven : c.answer ≡ Err no.Memory → ⊥
   not_seven a = go does
     where
       go : Converts c → ⊥
-      go (other_memory e r) = true_not_false (memory_law p (kept c) refl) e
+      go (other_memory e r) = true≢false (sym (memory_law p (kept c) refl) ∙ e)
       go (no_hint e hk r) = let z : ◌≡◌ {A = ℕ} 0 1 = let y = same_err r.answer a in cc in omega arith
       go (no_room e hk s r) = let z : ◌≡◌ {A = ℕ} 0 1 = let y = same_err r.answer a in cc in omega arith
       go (walked e hk s w) =

@@ -1,5 +1,6 @@
 -- The leaves of a schema, by their numbers, and the columns of a listing.
 use Rattle.std.proofs.Common.{◌≡◌, ℕ, zero, suc, ◌+◌, ◌<◌, ◌≤◌, Bool, true, false, cond, List, [], ◌∷◌, map, length, get_or, Ok, filter, sym, refl, ap, ◌∙◌, arith}
+use Rattle.std.proofs.lemmas.Bool.{not-true, true≢false}
 use lib.ListN.{length-map}
 use Rattle.std.specs.List.{range_with_len, AllByRecursion}
 use Rattle.std.proofs.lemmas.List.FromFn.{length-range_with_len, get_or-range_with_len}
@@ -8,8 +9,6 @@ use Rattle.std.proofs.lemmas.List.{get_or_append_left, get_or-map}
 use Rattle.tree.specs.Forest.{Forest, Tree, alone}
 use Rattle.tree.specs.Forest.Forest.{bare, plant}
 use Rattle.schema.specs.declared.element.Element.{Element}
-use Rattle.schema.specs.declared.element.Kind.{Kind}
-use Rattle.schema.specs.declared.element.Kind.TheVariants.{Group as group, Leaf as leaf}
 use Rattle.schema.specs.Elements.{is_group}
 use Rattle.schema.specs.Posts.{shown_as}
 use Rattle.schema.specs.Rows.{ByDepth, IsFinished}
@@ -20,14 +19,14 @@ use Rattle.columns.specs.Levels.{leaves_of, path_of}
 use Rattle.columns.specs.Listing.{Listing, column_of, columns_from, empty_column}
 use Rattle.arrow.specs.declared.row.LeafNumbers.{LeafNumbers}
 use Rattle.walk.specs.Forests.{Spot, Way, on_way, relabel}
-use Rattle.walk.specs.Labels.{Numbered, is_leaf, leaf_count, shown_tree}
+use Rattle.walk.specs.Labels.{Numbered, leaf_count, shown_tree}
 use Rattle.walk.specs.Laws.{LeavesEnd, kept_leaves}
 use Rattle.walk.specs.Levels.{kept_leaf, leaf_row_of, leaves}
 use Rattle.walk.specs.Reading.{Read}
 use Rattle.walk.specs.Shape.{Row}
 use Rattle.walk.specs.Shape.RowKind.{leaf_row}
 use Rattle.walk.proofs.Lists.{map_twice}
-use Rattle.walk.proofs.Listed.{leaves_as_listed}
+use Rattle.walk.proofs.Listed.{kinds_same, leaves_as_listed}
 use Rattle.walk.proofs.Numbers.{numbered_in_order}
 use Rattle.promise.specs.Promise.{AtDepth}
 
@@ -41,11 +40,7 @@ module _ (names : List ℕ) where
   pub leaves_end : (d : ℕ) (f : Forest Element) → ByDepth d f → LeavesEnd (relabel (shown_as names) f)
   leaves_end d bare t = tt
   leaves_end d (plant e below after) t =
-      ((λ h. ap (relabel (shown_as names)) (t.1 (no_group e.kind h))), leaves_end (d + 1) below t.2, leaves_end d after t.3)
-    where
-      no_group : (k : Kind) → is_leaf k ≡ true → is_group k ≡ false
-      no_group (leaf l) h = refl
-      no_group (group a) h = absurd (let z : ◌≡◌ {A = ℕ} 0 1 = cc in omega arith)
+      ((λ h. ap (relabel (shown_as names)) (t.1 (not-true (is_group e.kind) (sym (kinds_same e.kind) ∙ h)))), leaves_end (d + 1) below t.2, leaves_end d after t.3)
 
 -- ── Leaves by their numbers ──
 
@@ -104,13 +99,10 @@ pub all_passing : {A : Type 0} (P : A → Type 0) (p : A → Bool) (xs : List A)
 all_passing P p [] t = tt
 all_passing {A} P p (x ∷ xs) t = go (p x) refl t (all_passing P p xs)
   where
-    differ : true ≡ false → ⊥
-    differ z = let y : ◌≡◌ {A = ℕ} 0 1 = cc in omega arith
-
     go : (b : Bool) → p x ≡ b → AllByRecursion P (cond b (x ∷ filter p xs) (filter p xs)) → (AllByRecursion P (filter p xs) → AllByRecursion (λ y. p y ≡ true → P y) xs)
         → (p x ≡ true → P x) × AllByRecursion (λ y. p y ≡ true → P y) xs
     go true e s more = ((λ h. s.0), more s.1)
-    go false e s more = ((λ h. absurd (differ (sym h ∙ e))), more s)
+    go false e s more = ((λ h. absurd (true≢false (sym h ∙ e))), more s)
 
 -- ── The columns of a listing ──
 

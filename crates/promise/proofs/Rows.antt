@@ -1,6 +1,6 @@
 -- The rows of a walk, flat, and a table that shows them.
-use Rattle.std.proofs.Common.{◌≡◌, ℕ, suc, ◌+◌, ◌<◌, List, [], ◌∷◌, ◌++◌, map, length, take, drop, Some, sym, refl, ap, ◌∙◌, ap₂, arith, length-append}
-use mathlib.Core.List.{map-append}
+use Rattle.std.proofs.Common.{◌≡◌, ℕ, suc, ◌+◌, ◌<◌, List, [], ◌∷◌, ◌++◌, map, length, take, drop, Some, sym, refl, ap, ◌∙◌, ap₂, length-append}
+use mathlib.Core.List.{map-append, nil≢cons, head-eq_of_cons-eq, tail-eq_of_cons-eq}
 use lib.ListN.{length-map}
 use Rattle.std.proofs.lemmas.List.{take_at, drop_at, take-map, drop-map, take-append-drop, get_or-map}
 use Rattle.tree.specs.Forest.{Forest, Lists, count, listing}
@@ -82,25 +82,13 @@ leaf_kind r k e = ap {B = RowKind} (λ l. kind_told l r.entries (nesting r.data_
 
 -- ── Such a table is flat ──
 
-first_same : {A : Type 0} {x y : A} {xs ys : List A} → x ∷ xs ≡ y ∷ ys → x ≡ y
-first_same e = cc
-
-rest_same : {A : Type 0} {x y : A} {xs ys : List A} → x ∷ xs ≡ y ∷ ys → xs ≡ ys
-rest_same e = cc
-
-some_not_none : {A : Type 0} {x : A} {xs : List A} → x ∷ xs ≡ [] → ⊥
-some_not_none e = let z : ◌≡◌ {A = ℕ} 0 1 = cc in omega arith
-
-none_not_some : {A : Type 0} {x : A} {xs : List A} → [] ≡ x ∷ xs → ⊥
-none_not_some e = let z : ◌≡◌ {A = ℕ} 0 1 = cc in omega arith
-
 pub replanted : (names : List ℕ) (f : Forest Full) (used : List ResultRow) → map (line_of names) used ≡ lines f → (g : Forest ResultRow) × Lists row_span g used
 replanted names bare [] e = (bare, record { lists = refl; sized = tt })
-replanted names bare (u ∷ us) e = absurd (some_not_none e)
-replanted names (plant r b a) [] e = absurd (none_not_some e)
+replanted names bare (u ∷ us) e = absurd (nil≢cons (sym e))
+replanted names (plant r b a) [] e = absurd (nil≢cons e)
 replanted names (plant r b a) (u ∷ us) e =
-    let tails : map (line_of names) us ≡ lines b ++ lines a = rest_same e in
-    let here : u.size ≡ suc (count b) = ap (λ (l : Line). l.size) (first_same e) in
+    let tails : map (line_of names) us ≡ lines b ++ lines a = tail-eq_of_cons-eq e in
+    let here : u.size ≡ suc (count b) = ap (λ (l : Line). l.size) (head-eq_of_cons-eq e) in
     let mine : map (line_of names) (take (count b) us) ≡ lines b =
     sym (take-map (line_of names) (count b) us) ∙ ap (take (count b)) tails ∙ take_at (lines b) (lines a) (count b) (length_lines b) in
     let theirs : map (line_of names) (drop (count b) us) ≡ lines a =

@@ -1,10 +1,10 @@
 -- Levels are at most 64, as depths are.
-use Rattle.std.proofs.Common.{◌≡◌, ℕ, suc, ◌+◌, ◌≤◌, max, true, ◌&&◌, eqb, leb, List, [], ◌∷◌, ◌++◌, map, is_some, Some, None, Option, sym, refl, subst, ap₂, arith}
+use Rattle.std.proofs.Common.{◌≡◌, ℕ, ◌+◌, ◌≤◌, true, ◌&&◌, eqb, leb, List, [], ◌∷◌, map, is_some, Some, None, Option, sym, refl, subst, arith}
 use Rattle.std.specs.List.{AllByRecursion}
 use Rattle.std.proofs.lemmas.Bool.{leb-true, and_parts}
-use Rattle.walk.proofs.Lists.{listing_relabel}
+use Rattle.walk.proofs.Lists.{all_back, all_front, height_relabel, listing_relabel}
 use Rattle.walk.proofs.Order.{Lows, ordered_rows}
-use Rattle.walk.specs.Forests.{height, relabel}
+use Rattle.walk.specs.Forests.{height}
 use Rattle.walk.specs.Labels.{shown_tree}
 use Rattle.walk.specs.Laws.{LevelsBounded, Low}
 use Rattle.walk.specs.Shape.{Made, Row, made_row, rows}
@@ -15,18 +15,6 @@ use Rattle.schema.specs.declared.basic.Repetition.{Repetition}
 use Rattle.schema.specs.declared.element.Element.{Element}
 use Rattle.tree.specs.Forest.{Forest, listing}
 use Rattle.tree.specs.Forest.Forest.{bare, plant}
-
-all_front : {A : Type 0} (P : A → Type 0) (xs ys : List A) → AllByRecursion P (xs ++ ys) → AllByRecursion P xs
-all_front P [] ys a = tt
-all_front P (x ∷ xs) ys a = (a.0, all_front P xs ys a.1)
-
-all_back : {A : Type 0} (P : A → Type 0) (xs ys : List A) → AllByRecursion P (xs ++ ys) → AllByRecursion P ys
-all_back P [] ys a = a
-all_back P (x ∷ xs) ys a = all_back P xs ys a.1
-
-height_relabel : {A B : Type 0} (f : A → B) (g : Forest A) → height (relabel f g) ≡ height g
-height_relabel f bare = refl
-height_relabel f (plant a below after) = ap₂ (λ (x y : ℕ). max (suc x) y) (height_relabel f below) (height_relabel f after)
 
 deep : (bytes : ℕ) (e : Element) → row_kept bytes e ≡ true → e.depth ≤ 64
 deep bytes e h =
@@ -63,7 +51,7 @@ no_repetition bytes e h =
   where
     go : (o : Option Repetition) → is_none o ≡ true → o ≡ None
     go None z = refl
-    go (Some r) z = absurd (let y : ◌≡◌ {A = ℕ} 0 1 = cc in omega arith)
+    go (Some r) z = cc
 
 pub levels_bounded : LevelsBounded
 levels_bounded chosen names bytes t table s =

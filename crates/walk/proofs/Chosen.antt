@@ -1,5 +1,5 @@
 -- Only the choice of the schema's own leaves plays a part.
-use Rattle.std.proofs.Common.{◌≡◌, ℕ, ◌+◌, ◌<◌, ◌≤◌, Bool, true, false, cond, ◌&&◌, ◌||◌, List, [], ◌++◌, refl, ap, ◌∙◌, ap₂, arith}
+use Rattle.std.proofs.Common.{◌≡◌, ℕ, ◌+◌, ◌<◌, ◌≤◌, Bool, true, false, cond, ◌&&◌, ◌||◌, List, [], ◌++◌, sym, refl, ap, ◌∙◌, subst, ap₂, arith}
 use Rattle.walk.specs.Faults.{Typing, below_group, leaf_hint, name_checks, own_checks, refusals, type_checks, wrap_checks}
 use Rattle.walk.specs.Forests.{beside, over, relabel, trees}
 use Rattle.walk.specs.Handing.{compares_names, field_hint, hands_on, hinting, wrapped}
@@ -102,11 +102,6 @@ module _ (a b : ℕ → Bool) where
 
   -- ── Agreement below the count of leaves ──
 
-  bare_agrees : (z : Forest Spelled) → z ≡ bare → (n : Bool) (u h : Forest Hint) (t : Part) (g : Holder) (i k : ℕ) → Agree (hinting n u h (reading t g (numbered i k z)))
-  unfolding hinting reading
-  bare_agrees bare e n u h t g i k = tt
-  bare_agrees (plant x below after) e n u h t g i k = absurd (let z : ◌≡◌ {A = ℕ} 0 1 = cc in omega arith)
-
   agrees : (n : Bool) (u h : Forest Hint) (t : Part) (g : Holder) (i k : ℕ) (s : Forest Spelled) → LeavesEnd s
       → ((j : ℕ) → k ≤ j → j < k + leaf_count s → a j ≡ b j) → Agree (hinting n u h (reading t g (numbered i k s)))
   unfolding hinting reading
@@ -127,7 +122,7 @@ module _ (a b : ℕ → Bool) where
       inside_of : (c : Bool) → is_leaf e.kind ≡ c → (n : Bool) (u h : Forest Hint) (t : Part) (g : Holder)
           → (((j : ℕ) → k ≤ j → j < k + leaf_count below → a j ≡ b j) → Agree (hinting n u h (reading t g (numbered (i + 1) k below))))
           → Agree (hinting n u h (reading t g (numbered (i + 1) k below)))
-      inside_of true q n u h t g more = bare_agrees below (p.0 q) n u h t g (i + 1) k
+      inside_of true q n u h t g more = subst (λ (z : Forest Spelled). Agree (hinting n u h (reading t g (numbered (i + 1) k z)))) (sym (p.0 q)) tt
       inside_of false q n u h t g more =
           let c : cond (is_leaf e.kind) 1 (leaf_count below) ≡ leaf_count below = ap (λ (z : Bool). cond z 1 (leaf_count below)) q in
           more (λ j lo hi. f j lo (omega arith))

@@ -1,5 +1,5 @@
 -- The first of what the roles and checks refuse is the first fault.
-use Rattle.std.proofs.Common.{◌≡◌, ℕ, Bool, true, false, cond, not, ◌&&◌, ◌||◌, eqb, List, [], ◌∷◌, ◌++◌, Some, None, Option, sym, refl, ap, ◌∙◌, subst, ap₂, arith}
+use Rattle.std.proofs.Common.{◌≡◌, ℕ, Bool, true, false, cond, not, ◌&&◌, ◌||◌, eqb, List, [], ◌∷◌, ◌++◌, Some, None, Option, sym, refl, ap, ◌∙◌, subst, ap₂}
 use Rattle.std.specs.Str.{bytes_eq}
 use Rattle.arrow.specs.declared.types.ArrowType.{ArrowType}
 use Rattle.walk.specs.Faults.{Typing, checks, group_checks, leaf_hint, map_checks, name_checks, own_checks, struct_checks, type_checks, unless, wrap_checks}
@@ -9,7 +9,7 @@ use Rattle.walk.specs.Hints.{Hint, Nesting, any_list, any_map, any_struct, fits,
 use Rattle.walk.specs.Labels.{Numbered, is_repeated}
 use Rattle.walk.specs.Reading.{Part, Read, by_annotation, entries_role, list_child, list_role, map_child, map_role, role_of}
 use Rattle.walk.specs.Reading.Part.{as_element, as_entries, as_field, as_key, as_middle, as_root}
-use Rattle.walk.specs.Refusing.{by_itself, faults_at, group_faults, hint_faults, list_faults, map_faults, miscounted, misnamed, no_such, not_over_two, of_label, repeated_group, repeated_label, rule_faults, struct_faults, untyped, when}
+use Rattle.walk.specs.Refusing.{by_itself, faults_at, group_faults, hint_faults, list_faults, map_faults, miscounted, misnamed, no_such, not_over_two, repeated_group, repeated_label, rule_faults, struct_faults, untyped, when}
 use Rattle.walk.specs.declared.role.Role.{Role}
 use Rattle.walk.specs.declared.role.Role.TheVariants.{Broken as broken, Listed as listed, Mapped as mapped, Own as own}
 use Rattle.schema.specs.declared.basic.Annotation.{Annotation}
@@ -22,19 +22,19 @@ use Rattle.tree.specs.Forest.Forest.{bare, plant}
 use Rattle.schema.specs.declared.basic.Annotation.TheVariants as a
 use Rattle.schema.specs.declared.refusal.Refusal.TheVariants as no
 
+abbrev pub of_label : Read → Numbered
+of_label x = x.of
+
 -- ── The first of a list ──
 
 abbrev pub head : {A : Type 0} → List A → Option A
 head [] = None
 head (x ∷ xs) = Some x
 
-clash : {A B : Type 0} (x : A) → None ≡ Some x → B
-clash x e = absurd (let z : ◌≡◌ {A = ℕ} 0 1 = cc in omega arith)
-
 pub heads : {A : Type 0} (xs ys us vs : List A) → head xs ≡ head ys → head us ≡ head vs → head (xs ++ us) ≡ head (ys ++ vs)
 heads [] [] us vs e k = k
-heads [] (y ∷ ys) us vs e k = clash y e
-heads (x ∷ xs) [] us vs e k = clash x (sym e)
+heads [] (y ∷ ys) us vs e k = cc
+heads (x ∷ xs) [] us vs e k = cc
 heads (x ∷ xs) (y ∷ ys) us vs e k = e
 
 -- ── One element ──
@@ -57,25 +57,21 @@ wrap_first : (e : ℕ) (w : Bool) (hint : Forest Hint) → wrap_checks e w hint 
 wrap_first e false hint = refl
 wrap_first e true hint = fits_when plain_list hint (no.HintKind e)
 
+-- of two checks the second counts only where the first holds
+two_first : (b c : Bool) (r s : Refusal) → head (unless b r ++ unless c s) ≡ head (when (not b) r ++ when (b && not c) s)
+two_first true true r s = refl
+two_first true false r s = refl
+two_first false c r s = refl
+
 struct_first : (e : ℕ) (hint : Forest Hint) (n : ℕ)
     → head (struct_checks e hint n) ≡ head (when (no_such any_struct hint) (no.HintKind e) ++ when (miscounted n hint) (no.HintFieldCount e))
 struct_first e bare n = refl
-struct_first e (plant h below after) n = go (any_struct (nesting h.type)) (eqb (trees below) n)
-  where
-    go : (b c : Bool) → head (unless b (no.HintKind e) ++ unless c (no.HintFieldCount e)) ≡ head (when (not b) (no.HintKind e) ++ when (b && not c) (no.HintFieldCount e))
-    go true true = refl
-    go true false = refl
-    go false c = refl
+struct_first e (plant h below after) n = two_first (any_struct (nesting h.type)) (eqb (trees below) n) (no.HintKind e) (no.HintFieldCount e)
 
 map_first : (e : ℕ) (hint : Forest Hint)
     → head (map_checks e hint) ≡ head (when (no_such any_map hint) (no.HintKind e) ++ when (not_over_two hint) (no.HintMap e))
 map_first e bare = refl
-map_first e (plant h below after) = go (any_map (nesting h.type)) (over_two (plant h below after))
-  where
-    go : (b c : Bool) → head (unless b (no.HintKind e) ++ unless c (no.HintMap e)) ≡ head (when (not b) (no.HintKind e) ++ when (b && not c) (no.HintMap e))
-    go true true = refl
-    go true false = refl
-    go false c = refl
+map_first e (plant h below after) = two_first (any_map (nesting h.type)) (over_two (plant h below after)) (no.HintKind e) (no.HintMap e)
 
 own_first : (e : ℕ) (w : Bool) (hint : Forest Hint) (n : ℕ) → head (group_checks e own w hint n) ≡ head (struct_faults e w hint n)
 own_first e w hint n =

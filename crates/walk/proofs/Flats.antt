@@ -2,7 +2,7 @@
 use Rattle.std.proofs.Common.{◌≡◌, ℕ, zero, suc, ◌+◌, ◌-◌, ◌<◌, ◌≤◌, Bool, true, false, cond, ltb, ◌⊎◌, List, [], ◌∷◌, ◌++◌, map, get_or, drop, sym, refl, ap, ◌∙◌, subst, ap₂, inl, inr, append_assoc, add-one, arith, get_or-drop}
 use Rattle.std.proofs.lemmas.Bool.{cases_lt, lt-ltb, le-ltb}
 use Rattle.tree.proofs.Trees.{drop_next, drop_past}
-use Rattle.walk.proofs.Lists.{count_plant, count_relabel}
+use Rattle.walk.proofs.Lists.{Ends, count_plant, count_relabel}
 use Rattle.walk.proofs.Numbers.{count_numbered}
 use Rattle.walk.proofs.Once.{among_left, among_right}
 use Rattle.walk.specs.Forests.{Way, along, relabel, straight, under, ways}
@@ -42,40 +42,41 @@ trail_relabel {A} {B} f (plant a below after) (suc e) =
 -- ── Places of the line, and what stands there ──
 
 module _ {A : Type 0} (xs : List A) (d : A) where
-  pub getD_here : (q : ℕ) (a : A) (rest : List A) → drop q xs ≡ a ∷ rest → get_or xs q d ≡ a
-  getD_here q a rest e = ap (λ (n : ℕ). get_or xs n d) (let z : q ≡ q + 0 = omega arith in z) ∙ sym (get_or-drop q xs 0 d) ∙ ap (λ (l : List A). get_or l 0 d) e
+  -- where a tree's rows begin, its root stands, and the rows below it and then those after it come next
+  pub laid : (a : A) (v w : Forest A) (q : ℕ) (rest : List A) → drop q xs ≡ listing (plant a v w) ++ rest
+      → (get_or xs q d ≡ a) × (drop (q + 1) xs ≡ listing v ++ (listing w ++ rest)) × (drop (q + suc (count v)) xs ≡ listing w ++ rest)
+  laid a v w q rest e =
+      let split : drop q xs ≡ a ∷ (listing v ++ (listing w ++ rest)) = e ∙ ap {B = List A} (λ (l : List A). a ∷ l) (append_assoc (listing v) (listing w) rest) in (
+        ap (λ (n : ℕ). get_or xs n d) (let z : q ≡ q + 0 = omega arith in z) ∙ sym (get_or-drop q xs 0 d) ∙ ap (λ (l : List A). get_or l 0 d) split,
+        ap (λ (n : ℕ). drop n xs) (add-one q) ∙ drop_next xs q a (listing v ++ (listing w ++ rest)) split,
+        drop_past xs q (a ∷ listing v) (listing w ++ rest) split,
+      )
 
   pub line_trail : (f : Forest A) (q : ℕ) (rest : List A) → drop q xs ≡ listing f ++ rest → (i : ℕ) → i < count f
       → map (λ j. get_or xs j d) (line_from q f i) ≡ trail f i
   line_trail bare q rest e i h = absurd (omega arith)
-  line_trail (plant a v w) q rest e zero h = ap {B = List A} (λ (z : A). z ∷ []) (getD_here q a _ e)
+  line_trail (plant a v w) q rest e zero h = ap {B = List A} (λ (z : A). z ∷ []) (laid a v w q rest e).0
   line_trail (plant a v w) q rest e (suc i) h =
-      let split : drop q xs ≡ a ∷ (listing v ++ (listing w ++ rest)) = e ∙ ap {B = List A} (λ (l : List A). a ∷ l) (append_assoc (listing v) (listing w) rest) in
-      let on : drop (q + 1) xs ≡ listing v ++ (listing w ++ rest) =
-      ap (λ (n : ℕ). drop n xs) (add-one q) ∙ drop_next xs q a (listing v ++ (listing w ++ rest)) split in
-      let past : drop (q + suc (count v)) xs ≡ listing w ++ rest = drop_past xs q (a ∷ listing v) (listing w ++ rest) split in
+      let lies = laid a v w q rest e in
       let size = count_plant a v w in
       elim (cases_lt i (count v)) [
         | inl lt ↦ rw (lt-ltb i (count v) lt)
-            (ap₂ {C = List A} (λ (z : A) (l : List A). z ∷ l) (getD_here q a _ split) (line_trail v (q + 1) (listing w ++ rest) on i lt))
-        | inr ge ↦ rw (le-ltb i (count v) ge) (line_trail w (q + suc (count v)) rest past (i - count v) (omega arith))
+            (ap₂ {C = List A} (λ (z : A) (l : List A). z ∷ l) lies.0 (line_trail v (q + 1) (listing w ++ rest) lies.1 i lt))
+        | inr ge ↦ rw (le-ltb i (count v) ge) (line_trail w (q + suc (count v)) rest lies.2 (i - count v) (omega arith))
       ]
 
   pub here_label : (f : Forest A) (q : ℕ) (rest : List A) → drop q xs ≡ listing f ++ rest → (i : ℕ) → i < count f → get_or xs (q + i) d ≡ label_at d f i
   here_label bare q rest e i h = absurd (omega arith)
-  here_label (plant a v w) q rest e zero h = ap (λ (n : ℕ). get_or xs n d) (let z : q + 0 ≡ q = omega arith in z) ∙ getD_here q a _ e
+  here_label (plant a v w) q rest e zero h = ap (λ (n : ℕ). get_or xs n d) (let z : q + 0 ≡ q = omega arith in z) ∙ (laid a v w q rest e).0
   here_label (plant a v w) q rest e (suc i) h =
-      let split : drop q xs ≡ a ∷ (listing v ++ (listing w ++ rest)) = e ∙ ap {B = List A} (λ (l : List A). a ∷ l) (append_assoc (listing v) (listing w) rest) in
-      let on : drop (q + 1) xs ≡ listing v ++ (listing w ++ rest) =
-      ap (λ (n : ℕ). drop n xs) (add-one q) ∙ drop_next xs q a (listing v ++ (listing w ++ rest)) split in
-      let past : drop (q + suc (count v)) xs ≡ listing w ++ rest = drop_past xs q (a ∷ listing v) (listing w ++ rest) split in
+      let lies = laid a v w q rest e in
       let size = count_plant a v w in
       elim (cases_lt i (count v)) [
         | inl lt ↦ rw (lt-ltb i (count v) lt)
-            (ap (λ (n : ℕ). get_or xs n d) (let z : q + suc i ≡ q + 1 + i = omega arith in z) ∙ here_label v (q + 1) (listing w ++ rest) on i lt)
+            (ap (λ (n : ℕ). get_or xs n d) (let z : q + suc i ≡ q + 1 + i = omega arith in z) ∙ here_label v (q + 1) (listing w ++ rest) lies.1 i lt)
         | inr ge ↦ rw (le-ltb i (count v) ge)
             (ap (λ (n : ℕ). get_or xs n d) (let z : q + suc i ≡ q + suc (count v) + (i - count v) = omega arith in z)
-            ∙ here_label w (q + suc (count v)) rest past (i - count v) (omega arith))
+            ∙ here_label w (q + suc (count v)) rest lies.2 (i - count v) (omega arith))
       ]
 
 -- ── Among lists ──
@@ -103,11 +104,6 @@ partner R (z ∷ xs) (y ∷ ys) p x (inl e) = (y, (inl refl, subst (λ w. R w y)
 partner R (z ∷ xs) (y ∷ ys) p x (inr a) = let r = partner R xs ys p.1 x a in (r.0, (inr r.1.0, r.1.1))
 
 -- ── From a leaf's place to its way ──
-
--- nothing lies below a leaf
-abbrev pub Ends : {A : Type 0} → (A → Bool) → Forest A → Type 0
-Ends is bare = Unit {0}
-Ends is (plant a below after) = (is a ≡ true → below ≡ bare) × Ends is below × Ends is after
 
 pub record Leads {A : Type 0} (is : A → Bool) (d : A) (f : Forest A) (i : ℕ) : Type 0 where
   pub way : Way A

@@ -1,5 +1,7 @@
 -- The ways of the rows follow the paths of the schema: one equation between lists, by induction over the schema.
-use Rattle.std.proofs.Common.{◌≡◌, ℕ, suc, Bool, true, false, cond, not, ◌&&◌, ◌||◌, List, [], ◌∷◌, ◌++◌, map, ℤ, filter, Option, sym, refl, ap, ◌∙◌, ap₂, append_assoc, append-nil, arith}
+use Rattle.std.proofs.Common.{◌≡◌, ℕ, suc, Bool, true, false, cond, not, ◌&&◌, List, [], ◌∷◌, ◌++◌, map, ℤ, filter, Option, sym, refl, ap, ◌∙◌, ap₂, append_assoc, append-nil}
+use Rattle.std.proofs.lemmas.List.Concat.{flat_map-append}
+use Rattle.std.proofs.lemmas.Bool.{or_parts}
 use mathlib.Core.List.{map-append}
 use Rattle.std.specs.List.{flat_map}
 use Rattle.std.proofs.lemmas.List.Elements.{filter-append}
@@ -82,12 +84,6 @@ Owing p bare = Unit {0}
 Owing p (plant x below after) =
     (p ≡ true → x.of.repetition ≡ repeated) × Owing (passes_null (has_own x.role) x.of.repetition) below × Owing p after
 
-no_required : (true ≡ true → required ≡ repeated) → ⊥
-no_required h = let e : required ≡ repeated = h refl in let z : ◌≡◌ {A = ℕ} 0 1 = cc in omega arith
-
-no_optional : (true ≡ true → optional ≡ repeated) → ⊥
-no_optional h = let e : optional ≡ repeated = h refl in let z : ◌≡◌ {A = ℕ} 0 1 = cc in omega arith
-
 -- ── Rows round rows ──
 
 abbrev pub Groups : List Made → Type 0
@@ -108,15 +104,12 @@ ways_over (r ∷ rs) g (plant a below after) =
     ∙ map_twice (under r) (under_all rs) (under_all (r ∷ rs)) (λ w. refl) (ways made_leaf (plant a below after)))
 
 sum_under : (rs : List Made) (w : Way Made) → sum_of (under_all rs w) ≡ prefixed rs (sum_of w)
-sum_under [] w = refl
-sum_under (r ∷ rs) w =
-    let e = sum_under rs w in
-    let a : flat_map made_reads (along (under_all rs w)) ≡ flat_map made_reads rs ++ flat_map made_reads (along w) = ap (λ (s : Sum). s.reads) e in
-    let b : flat_map made_opens (along (under_all rs w)) ≡ flat_map made_opens rs ++ flat_map made_opens (along w) = ap (λ (s : Sum). s.opens) e in
+sum_under rs w =
+    let e : along (under_all rs w) ≡ rs ++ along w = append_assoc rs w.above (w.end ∷ []) in
     λ i. record {
       row = w.end.row;
-      reads = (ap (λ (m : List Means). made_reads r ++ m) a ∙ sym (append_assoc (made_reads r) (flat_map made_reads rs) (flat_map made_reads (along w)))) i;
-      opens = (ap (λ (m : List Opens). made_opens r ++ m) b ∙ sym (append_assoc (made_opens r) (flat_map made_opens rs) (flat_map made_opens (along w)))) i;
+      reads = (ap (flat_map made_reads) e ∙ flat_map-append made_reads rs (along w)) i;
+      opens = (ap (flat_map made_opens) e ∙ flat_map-append made_opens rs (along w)) i;
     }
 
 -- the sums of the ways of a forest with rows round it
@@ -172,8 +165,8 @@ module _ (n l : ℕ) (a : Aside) (k : Kind) (role : Role) (below : Forest Read) 
   step i true optional false h q = refl
   step i false repeated false h q = refl
   step i true repeated false h q = refl
-  step i o required true h q = absurd (no_required h)
-  step i o optional true h q = absurd (no_optional h)
+  step i o required true h q = let e : required ≡ repeated = h refl in cc
+  step i o optional true h q = let e : optional ≡ repeated = h refl in cc
   step i false repeated true h q = refl
   step i true repeated true h q = refl
 
@@ -184,8 +177,8 @@ module _ (n l : ℕ) (a : Aside) (k : Kind) (role : Role) (below : Forest Read) 
   leaf_step true required false h = refl
   leaf_step true optional false h = refl
   leaf_step true repeated false h = refl
-  leaf_step true required true h = absurd (no_required h)
-  leaf_step true optional true h = absurd (no_optional h)
+  leaf_step true required true h = let e : required ≡ repeated = h refl in cc
+  leaf_step true optional true h = let e : optional ≡ repeated = h refl in cc
   leaf_step true repeated true h = refl
 
 module _ (chosen : ℕ → Bool) where
@@ -204,10 +197,6 @@ module _ (chosen : ℕ → Bool) where
   none_under p h = kept_by_none (kept_leaf chosen) (under p) (λ w. ap (λ (b : Bool). (not b && clear chosen w.above) && chosen w.end.node.of.leaf_number) h)
 
   -- ── What does not yield has no leaf that is kept ──
-
-  or_parts : (a b : Bool) → (a || b) ≡ false → (a ≡ false) × (b ≡ false)
-  or_parts true b e = absurd (let z : ◌≡◌ {A = ℕ} 0 1 = cc in omega arith)
-  or_parts false b e = (refl, e)
 
   module _ (p : Spot Read) where
     abbrev some : Bool
@@ -228,7 +217,7 @@ module _ (chosen : ℕ → Bool) where
       where
         go : (b c : Bool) → some ≡ b → both ≡ c → (c && b) ≡ false
             → filter (kept_leaf chosen) (map (under p) (ways leaf_spot (spots p.below))) ≡ []
-        go true true es ec z = absurd (let a : ◌≡◌ {A = ℕ} 0 1 = cc in omega arith)
+        go true true es ec z = cc
         go true false es ec z = none_under p (e ∙ ap₂ (λ (a b : Bool). not a && b) ec es) (ways leaf_spot (spots p.below))
         go false true es ec z =
             kept_under p (e ∙ ap₂ (λ (a b : Bool). not a && b) ec es) (ways leaf_spot (spots p.below))

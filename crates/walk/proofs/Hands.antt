@@ -1,5 +1,8 @@
 -- Hints reach elements and fields are told as the laws say.
-use Rattle.std.proofs.Common.{◌≡◌, ℕ, zero, suc, Bool, true, false, not, ◌&&◌, List, [], ◌∷◌, ◌++◌, Some, None, sym, refl, ap, ◌∙◌, subst, ap₂, arith}
+use Rattle.std.proofs.Common.{◌≡◌, ℕ, zero, suc, Bool, true, false, not, ◌&&◌, [], Some, None, sym, refl, ap, ◌∙◌, subst, ap₂}
+use Rattle.walk.proofs.Lists.{all_append}
+use Rattle.std.proofs.lemmas.Bool.{true≢false}
+use Rattle.std.proofs.lemmas.Option.{none-some}
 use Rattle.std.specs.List.{slice_get, AllByRecursion}
 use Rattle.arrow.specs.declared.row.Metadata.{Metadata}
 use Rattle.walk.specs.Faults.{Typing}
@@ -35,8 +38,8 @@ record Told (n : Bool) (u h : Forest Hint) (t : Part) (g : Holder) (k : ℕ) (y 
 told : (n : Bool) (u h : Forest Hint) (t : Part) (g : Holder) (f : Forest Numbered) (k : ℕ) (y : Read)
     → slice_get (roots (hinting n u h (reading t g f))) k ≡ Some y → Told n u h t g k y
 unfolding hinting reading
-told n u h t g bare zero y e = absurd (let z : ◌≡◌ {A = ℕ} 0 1 = cc in omega arith)
-told n u h t g bare (suc k) y e = absurd (let z : ◌≡◌ {A = ℕ} 0 1 = cc in omega arith)
+told n u h t g bare zero y e = absurd (none-some y e)
+told n u h t g bare (suc k) y e = absurd (none-some y e)
 told n u h t g (plant x below after) zero y e =
     let it : Read = with_hint (record { of = x; role = role_of t x below; part = t; holder = held_by t g x; given = nothing }) n u h in
     let same : it ≡ y = cc in
@@ -67,21 +70,18 @@ key_first : (k : ℕ) → is_key (part_after k as_key) ≡ first_of k
 key_first zero = refl
 key_first (suc k) = ap is_key (after_field k)
 
-differ : {A : Type 0} → true ≡ false → A
-differ e = absurd (let z : ◌≡◌ {A = ℕ} 0 1 = cc in omega arith)
-
 held_group : (t : Part) (g : Holder) (x : Numbered) → by_itself t ≡ false → held_by t g x ≡ g
-held_group as_root g x e = differ e
-held_group as_field g x e = differ e
-held_group as_key g x e = differ e
+held_group as_root g x e = cc
+held_group as_field g x e = cc
+held_group as_key g x e = cc
 held_group as_element g x e = refl
 held_group as_middle g x e = refl
 held_group as_entries g x e = refl
 
 field_group : (t : Part) (u h : Forest Hint) → by_itself t ≡ false → field_hint t u h ≡ u
-field_group as_root u h e = differ e
-field_group as_field u h e = differ e
-field_group as_key u h e = differ e
+field_group as_root u h e = cc
+field_group as_field u h e = cc
+field_group as_key u h e = cc
 field_group as_element u h e = refl
 field_group as_middle u h e = refl
 field_group as_entries u h e = refl
@@ -90,14 +90,14 @@ inner_own : (t : Part) (hint : Forest Hint) → by_itself t ≡ true → inner_m
 inner_own as_root hint e = refl
 inner_own as_field hint e = refl
 inner_own as_key hint e = refl
-inner_own as_element hint e = differ (sym e)
-inner_own as_middle hint e = differ (sym e)
-inner_own as_entries hint e = differ (sym e)
+inner_own as_element hint e = cc
+inner_own as_middle hint e = cc
+inner_own as_entries hint e = cc
 
 inner_group : (t : Part) (hint : Forest Hint) → by_itself t ≡ false → inner_metadata t hint ≡ m.None
-inner_group as_root hint e = differ e
-inner_group as_field hint e = differ e
-inner_group as_key hint e = differ e
+inner_group as_root hint e = cc
+inner_group as_field hint e = cc
+inner_group as_key hint e = cc
 inner_group as_element hint e = refl
 inner_group as_middle hint e = refl
 inner_group as_entries hint e = refl
@@ -157,6 +157,14 @@ module _ (n : Bool) (u h : Forest Hint) (t : Part) (g : Holder) (x : Numbered) (
             (r.hint ∙ ap (λ (z : Role). nth_hint k (hands_on z (wrapped t x.repetition) (sole h))) e, r.named ∙ ap compares_names e);
       }
 
+  -- the field of a child, by its part
+  part_field : (s : Part) (k : ℕ) (y : Read) → Child here k y → y.part ≡ s → (null : Bool)
+      → held_field y.holder y.given.field null ≡ held_field (held_by s its_holder y.of) (field_hint s up y.given.hint) null
+  part_field s k y c e null =
+      let r = child_told k y c in
+      ap₂ (λ (a : Holder) (b : Forest Hint). held_field a b null)
+      (r.holder ∙ ap (λ (z : Part). held_by z its_holder y.of) e) (r.field ∙ ap (λ (z : Part). field_hint z up y.given.hint) e)
+
   module _ (typing : Typing) where
     -- the repeated child of a group that is a field or a key
     group_field : (k : ℕ) (y : Read) → Child here k y → by_itself y.part ≡ false → (null : Bool) → (held_field y.holder y.given.field null ≡ held_field its_holder up null)
@@ -167,22 +175,14 @@ module _ (n : Bool) (u h : Forest Hint) (t : Part) (g : Holder) (x : Numbered) (
 
     -- only the children of a LIST or MAP group are not read by themselves
     never : (k : ℕ) (y : Read) {A : Type 0} → Child here k y → by_itself y.part ≡ false → by_itself part_below ≡ true → A
-    never k y c e own_part = let r = child_told k y c in differ (sym own_part ∙ sym (after_itself k part_below) ∙ ap by_itself (sym r.part) ∙ e)
+    never k y c e own_part = let r = child_told k y c in absurd (true≢false (sym own_part ∙ sym (after_itself k part_below) ∙ ap by_itself (sym r.part) ∙ e))
 
 fields_at : (n : Bool) (u h : Forest Hint) (t : Part) (g : Holder) (x : Numbered) (below : Forest Numbered) (typing : Typing)
     → FieldsBelow typing (here n u h t g x below)
 fields_at n u h t g x below typing =
     record {
-      field = λ k y c e row.
-          let r = child_told n u h t g x below k y c in
-          ap₂ (λ (a : Holder) (b : Forest Hint). held_field a b row.nullable)
-          (r.holder ∙ ap (λ (z : Part). held_by z (its_holder n u h t g x below) y.of) e)
-          (r.field ∙ ap (λ (z : Part). field_hint z (up n u h t g x below) y.given.hint) e);
-      key = λ k y c e row.
-          let r = child_told n u h t g x below k y c in
-          ap₂ (λ (a : Holder) (b : Forest Hint). held_field a b row.nullable)
-          (r.holder ∙ ap (λ (z : Part). held_by z (its_holder n u h t g x below) y.of) e)
-          (r.field ∙ ap (λ (z : Part). field_hint z (up n u h t g x below) y.given.hint) e);
+      field = λ k y c e row. part_field n u h t g x below as_field k y c e row.nullable;
+      key = λ k y c e row. part_field n u h t g x below as_key k y c e row.nullable;
       sides = λ e k y c.
           let r = child_told n u h t g x below k y c in
           ap is_key r.part ∙ ap (λ (z : Role). is_key (part_after k (child_part z x.name below))) e ∙ key_first k;
@@ -201,10 +201,6 @@ fields_at n u h t g x below typing =
     of_part as_entries k y c e not_root row = never n u h as_entries g x below typing k y c e refl
 
 -- ── All elements ──
-
-all_append : {A : Type 0} (P : A → Type 0) (xs ys : List A) → AllByRecursion P xs → AllByRecursion P ys → AllByRecursion P (xs ++ ys)
-all_append P [] ys p q = q
-all_append P (x ∷ xs) ys p q = (p.0, all_append P xs ys p.1 q)
 
 module _ (P : Spot Read → Type 0)
     (each : (n : Bool) (u h : Forest Hint) (t : Part) (g : Holder) (x : Numbered) (below : Forest Numbered) → P (here n u h t g x below)) where

@@ -1,15 +1,17 @@
 -- Hints change no row, Arrow types and metadata aside.
-use Rattle.std.proofs.Common.{◌≡◌, ℕ, Bool, true, false, cond, ◌&&◌, ◌||◌, List, [], ◌∷◌, map, Ok, sym, refl, ap, ◌∙◌, subst, ap₂, arith}
+use Rattle.std.proofs.Common.{◌≡◌, ℕ, Bool, true, false, cond, ◌&&◌, ◌||◌, List, [], ◌∷◌, map, Ok, sym, refl, ap, ◌∙◌, subst, ap₂}
+use Rattle.schema.specs.Words.{Spelled}
+use Rattle.walk.specs.Faults.{Typing}
 use Rattle.walk.proofs.Lists.{count_relabel, listing_relabel}
 use Rattle.walk.proofs.Main.{leveled}
 use Rattle.walk.specs.Forests.{beside, over, relabel}
 use Rattle.walk.specs.Handing.{compares_names, field_hint, hands_on, hinting, with_hint, wrapped}
 use Rattle.walk.specs.Hints.{Hint, others, sole}
-use Rattle.walk.specs.Laws.{HasShape, HintsKeepShape, Leveled, WalkLeveled, shaped_row}
+use Rattle.walk.specs.Laws.{HasShape, HintsKeepShape, Leveled, WalkLeveled, full_row, shaped_row}
 use Rattle.walk.specs.Reading.{Read}
-use Rattle.walk.specs.Shape.{Items, Made, Row, Shaped, base, both_sides, element_rows, group_rows, has_own, items_of, leaf_part, passes_null, raised, read, rows, shape, shaped_of, wrap}
+use Rattle.walk.specs.Shape.{Items, Made, Row, Shaped, base, both_sides, element_rows, group_rows, has_own, items_of, leaf_part, passes_null, plain_rows, raised, read, rows, shape, shaped_of, wrap}
 use Rattle.walk.specs.Shape.Items.{of_list, of_map}
-use Rattle.walk.specs.Walk.{all_refusals, full_of, full_rows, handed, unless_refused}
+use Rattle.walk.specs.Walk.{Full, all_refusals, full_of, full_rows, handed, unless_refused, walk}
 use Rattle.walk.specs.Yields.{both_yield, every_yield, some_yield, yields_by}
 use Rattle.walk.specs.declared.levels.Levels.{Levels}
 use Rattle.walk.specs.declared.role.Role.{Role}
@@ -19,7 +21,7 @@ use Rattle.schema.specs.declared.basic.Repetition.TheVariants.{Optional as optio
 use Rattle.schema.specs.declared.element.Kind.{Kind}
 use Rattle.schema.specs.declared.element.Kind.TheVariants.{Group as group, Leaf as leaf}
 use Rattle.schema.specs.declared.refusal.Refusal.{Refusal}
-use Rattle.tree.specs.Forest.{Forest, count, listing}
+use Rattle.tree.specs.Forest.{Forest, Tree, count, listing}
 use Rattle.tree.specs.Forest.Forest.{bare, plant}
 
 -- ── Other labels ──
@@ -141,7 +143,7 @@ module _ (chosen : ℕ → Bool) where
 
 pub accepted_rows : {A : Type 0} (rs : List Refusal) (x y : A) → unless_refused rs x ≡ Ok y → x ≡ y
 accepted_rows [] x y e = cc
-accepted_rows (r ∷ rs) x y e = absurd (let z : ◌≡◌ {A = ℕ} 0 1 = cc in omega arith)
+accepted_rows (r ∷ rs) x y e = cc
 
 pub has_shape : HasShape
 has_shape typing chosen hints t f e =
@@ -158,13 +160,12 @@ hints_keep_shape one other chosen these those t f g ef eg =
       counts = sym (count_relabel shaped_row f) ∙ ap count same ∙ count_relabel shaped_row g;
     }
 
-abbrev shaped_plain : Shaped → Row
-shaped_plain r = r.row
+-- so its rows, as levels are read by them, are those of the schema
+pub plain_shape : (typing : Typing) (chosen : ℕ → Bool) (hints : Forest Hint) (t : Tree Spelled) (f : Forest Full)
+    → walk typing chosen hints t ≡ Ok f → plain_rows chosen t ≡ relabel full_row f
+plain_shape typing chosen hints t f e =
+    let plain : Shaped → Row = λ s. s.row in
+    sym (relabel_twice plain shaped_of (rows chosen t)) ∙ ap (relabel plain) (sym (has_shape typing chosen hints t f e)) ∙ relabel_twice plain shaped_row f
 
 pub walk_leveled : WalkLeveled
-walk_leveled typing chosen hints t f e =
-    subst (Leveled chosen t)
-    (sym (relabel_twice shaped_plain shaped_of (rows chosen t))
-    ∙ ap (relabel shaped_plain) (sym (has_shape typing chosen hints t f e))
-    ∙ relabel_twice shaped_plain shaped_row f)
-    (leveled chosen t)
+walk_leveled typing chosen hints t f e = subst (Leveled chosen t) (plain_shape typing chosen hints t f e) (leveled chosen t)

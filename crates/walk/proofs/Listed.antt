@@ -1,14 +1,14 @@
 -- The leaves of a schema are those of a listing.
-use Rattle.std.proofs.Common.{◌≡◌, ℕ, suc, ◌+◌, Bool, true, false, cond, not, List, [], ◌∷◌, ◌++◌, map, length, drop, filter, sym, refl, ap, ◌∙◌, ap₂, append_assoc, append-nil, add-one, arith, length-append}
+use Rattle.std.proofs.Common.{◌≡◌, ℕ, suc, ◌+◌, Bool, true, false, cond, not, List, [], ◌∷◌, ◌++◌, map, length, get_or, drop, filter, sym, refl, ap, ◌∙◌, ap₂, append-nil, arith, length-append}
+use Rattle.std.proofs.lemmas.Bool.{not-true}
 use mathlib.Core.List.{map-append}
 use Rattle.std.specs.List.{range_with_len}
 use Rattle.std.proofs.lemmas.List.Elements.{filter-append}
 use Rattle.columns.specs.Levels.{is_leaf as leaf_row_at_place}
-use Rattle.tree.proofs.Trees.{drop_next, drop_past}
-use Rattle.walk.proofs.Flats.{Ends, getD_here}
-use Rattle.walk.proofs.Lists.{count_relabel, map_twice}
+use Rattle.walk.proofs.Flats.{laid}
+use Rattle.walk.proofs.Lists.{Ends, count_relabel, ends_listing, map_twice}
 use Rattle.walk.proofs.Numbers.{counting_append, numbered_in_order}
-use Rattle.walk.specs.Forests.{Spot, Way, on_way, relabel, straight, under, ways}
+use Rattle.walk.specs.Forests.{Spot, Way, on_way, relabel, ways}
 use Rattle.walk.specs.Labels.{Numbered, is_leaf, leaf_count, leaf_node, numbered, numbered_as, shown_tree}
 use Rattle.walk.specs.Laws.{LeavesAsListed}
 use Rattle.walk.specs.Levels.{leaves}
@@ -22,58 +22,32 @@ use Rattle.schema.specs.declared.element.Kind.TheVariants.{Group as group, Leaf 
 use Rattle.tree.specs.Forest.{Forest, alone, count, listing}
 use Rattle.tree.specs.Forest.Forest.{bare, plant}
 
--- ── The ends of ways ──
-
-module _ {A : Type 0} (is : A → Bool) where
-  ends_listing : (f : Forest A) → Ends is f → map (λ (w : Way A). w.end) (ways is f) ≡ filter is (listing f)
-  ends_listing bare t = refl
-  ends_listing (plant r below after) t =
-      map-append (λ (w : Way A). w.end) (cond (is r) (straight r ∷ []) (map (under r) (ways is below))) (ways is after)
-      ∙ go (is r) t.0 (ends_listing below t.1) (ends_listing after t.2)
-      ∙ ap (λ (l : List A). cond (is r) (r ∷ l) l) (sym (filter-append is (listing below) (listing after)))
-    where
-      go : (b : Bool) → (b ≡ true → below ≡ bare) → map (λ (w : Way A). w.end) (ways is below) ≡ filter is (listing below)
-          → map (λ (w : Way A). w.end) (ways is after) ≡ filter is (listing after)
-          → map (λ (w : Way A). w.end) (cond b (straight r ∷ []) (map (under r) (ways is below))) ++ map (λ (w : Way A). w.end) (ways is after)
-          ≡ cond b (r ∷ (filter is (listing below) ++ filter is (listing after))) (filter is (listing below) ++ filter is (listing after))
-      go true e p q = ap₂ (λ (f : Forest A) (l : List A). r ∷ (filter is (listing f) ++ l)) (sym (e refl)) q
-      go false e p q =
-          ap₂ (λ (x y : List A). x ++ y) (map_twice (λ (w : Way A). w.end) (under r) (λ (w : Way A). w.end) (λ w. refl) (ways is below) ∙ p) q
-
 -- ── Leaves by their places ──
 
-kinds_same : (k : Kind) → is_leaf k ≡ not (is_group k)
+pub kinds_same : (k : Kind) → is_leaf k ≡ not (is_group k)
 kinds_same (leaf l) = refl
 kinds_same (group a) = refl
 
 ends_labels : (names : List ℕ) (d n k : ℕ) (f : Forest Element) → ByDepth d f → Ends leaf_node (numbered n k (relabel (shown_as names) f))
 ends_labels names d n k bare t = tt
 ends_labels names d n k (plant e below after) t = (
-  (λ h. ap (λ (g : Forest Element). numbered (n + 1) k (relabel (shown_as names) g)) (t.1 (group_no e.kind h))),
+  (λ h. ap (λ (g : Forest Element). numbered (n + 1) k (relabel (shown_as names) g)) (t.1 (not-true (is_group e.kind) (sym (kinds_same e.kind) ∙ h)))),
   ends_labels names (d + 1) (n + 1) k below t.2,
   ends_labels names d (n + 1 + count (relabel (shown_as names) below)) (k + cond (is_leaf e.kind) 1 (leaf_count (relabel (shown_as names) below))) after t.3,
 )
-  where
-    group_no : (k : Kind) → is_leaf k ≡ true → is_group k ≡ false
-    group_no (leaf l) h = refl
-    group_no (group a) h = absurd (let z : ◌≡◌ {A = ℕ} 0 1 = cc in omega arith)
 
 module _ (names : List ℕ) (elements : List Element) where
   abbrev number : Numbered → ℕ
   number x = x.number
 
-  at_place : (q : ℕ) (e : Element) (rest : List Element) → drop q elements ≡ e ∷ rest → is_leaf e.kind ≡ leaf_row_at_place elements q
-  at_place q e rest h = kinds_same e.kind ∙ ap (λ (z : Element). not (is_group z.kind)) (sym (getD_here elements empty q e rest h))
+  at_place : (q : ℕ) (e : Element) → get_or elements q empty ≡ e → is_leaf e.kind ≡ leaf_row_at_place elements q
+  at_place q e h = kinds_same e.kind ∙ ap (λ (z : Element). not (is_group z.kind)) (sym h)
 
   by_places : (f : Forest Element) (q k : ℕ) (rest : List Element) → drop q elements ≡ listing f ++ rest
       → map number (filter leaf_node (listing (numbered q k (relabel (shown_as names) f)))) ≡ filter (leaf_row_at_place elements) (range_with_len q (count f))
   by_places bare q k rest h = refl
   by_places (plant e below after) q k rest h =
-      let split : drop q elements ≡ e ∷ (listing below ++ (listing after ++ rest)) =
-      h ∙ ap {B = List Element} (λ (l : List Element). e ∷ l) (append_assoc (listing below) (listing after) rest) in
-      let on : drop (q + 1) elements ≡ listing below ++ (listing after ++ rest) =
-      ap (λ (n : ℕ). drop n elements) (add-one q) ∙ drop_next elements q e (listing below ++ (listing after ++ rest)) split in
-      let past : drop (q + suc (count below)) elements ≡ listing after ++ rest = drop_past elements q (e ∷ listing below) (listing after ++ rest) split in
+      let lies = laid elements empty e below after q rest h in
       let x = numbered_as q k (shown_as names e) in
       let sb = relabel (shown_as names) below in
       let sa = relabel (shown_as names) after in
@@ -83,8 +57,8 @@ module _ (names : List ℕ) (elements : List Element) where
       let test = leaf_row_at_place elements in
       let v = listing (numbered (q + 1) k sb) in
       let u = listing (numbered m k' sa) in
-      let first = by_places below (q + 1) k (listing after ++ rest) on in
-      let second = by_places after m k' rest (ap (λ (n : ℕ). drop n elements) there ∙ past) in
+      let first = by_places below (q + 1) k (listing after ++ rest) lies.1 in
+      let second = by_places after m k' rest (ap (λ (n : ℕ). drop n elements) there ∙ lies.2) in
       let tail : map number (filter leaf_node (v ++ u)) ≡ filter test (range_with_len (q + 1) (length (listing below ++ listing after))) =
       ap (map number) (filter-append leaf_node v u) ∙ map-append number (filter leaf_node v) (filter leaf_node u)
       ∙ ap₂ (λ (s t : List ℕ). s ++ t) first (second ∙ ap (λ (n : ℕ). filter test (range_with_len n (count after))) (let z : m ≡ q + 1 + count below = omega arith in z))
@@ -92,7 +66,7 @@ module _ (names : List ℕ) (elements : List Element) where
       ∙ ap (filter test) (counting_append (q + 1) (count below) (count after) ∙ ap (range_with_len (q + 1)) (sym (length-append (listing below) (listing after)))) in
       either (is_leaf e.kind) x (filter leaf_node (v ++ u)) (filter test (range_with_len (q + 1) (length (listing below ++ listing after)))) tail
       ∙ ap (λ (b : Bool). cond b (q ∷ filter test (range_with_len (q + 1) (length (listing below ++ listing after)))) (filter test (range_with_len (q + 1) (length (listing below ++ listing after)))))
-      (at_place q e _ split)
+      (at_place q e lies.0)
     where
       either : (b : Bool) (x : Numbered) (l : List Numbered) (r : List ℕ) → map number l ≡ r → map number (cond b (x ∷ l) l) ≡ cond b (x.number ∷ r) r
       either true x l r e = ap {B = List ℕ} (λ (s : List ℕ). x.number ∷ s) e

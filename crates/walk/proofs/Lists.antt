@@ -1,9 +1,13 @@
 -- Lists and forests, whatever they hold.
-use Rattle.std.proofs.Common.{◌≡◌, suc, ◌+◌, Bool, true, false, cond, List, [], ◌∷◌, ◌++◌, map, length, filter, sym, refl, ap, ◌∙◌, ap₂, append_assoc, length-append}
+use Rattle.std.proofs.Common.{◌≡◌, ℕ, suc, max, ◌+◌, Bool, true, false, cond, List, [], ◌∷◌, ◌++◌, map, length, filter, sym, refl, ap, ◌∙◌, ap₂, append_assoc, length-append}
+use Rattle.std.proofs.lemmas.List.Elements.{filter-append}
+use Rattle.std.specs.List.{AllByRecursion}
 use mathlib.Core.List.{map-append}
 use lib.ListN.{length-map}
-use Rattle.std.specs.List.{flat_map}
-use Rattle.walk.specs.Forests.{Way, beside, relabel, straight, under, ways}
+use Rattle.walk.specs.Forests.{Spot, Way, beside, height, relabel, spots, straight, under, ways}
+use Rattle.walk.specs.Shape.{both_sides}
+use Rattle.walk.specs.declared.role.Role.{Role}
+use Rattle.walk.specs.declared.role.Role.TheVariants.{Broken as broken, Entries as entries, Listed as listed, Mapped as mapped, Middle as middle, Own as own}
 use Rattle.walk.specs.Laws.{Paired}
 use Rattle.tree.specs.Forest.{Forest, count, listing}
 use Rattle.tree.specs.Forest.Forest.{bare, plant}
@@ -36,10 +40,6 @@ pub map_twice : {A B C : Type 0} (f : B → C) (g : A → B) (h : A → C) → (
 map_twice f g h e [] = refl
 map_twice f g h e (x ∷ xs) = λ i. e x i ∷ map_twice f g h e xs i
 
-pub joined_map : {A B C : Type 0} (g : B → List C) (f : A → B) (xs : List A) → flat_map g (map f xs) ≡ flat_map (λ x. g (f x)) xs
-joined_map g f [] = refl
-joined_map {C = C} g f (x ∷ xs) = ap (λ (l : List C). g (f x) ++ l) (joined_map g f xs)
-
 pub paired_map : {A B C : Type 0} (f : A → B) (R : B → C → Type 0) (xs : List A) (ys : List C) → Paired (λ x y. R (f x) y) xs ys → Paired R (map f xs) ys
 paired_map f R [] [] p = tt
 paired_map f R [] (y ∷ ys) p = p
@@ -57,3 +57,61 @@ count_plant a below after = ap suc (length-append (listing below) (listing after
 
 pub count_relabel : {A B : Type 0} (f : A → B) (g : Forest A) → count (relabel f g) ≡ count g
 count_relabel f g = ap length (listing_relabel f g) ∙ length-map (listing g) f
+
+pub height_relabel : {A B : Type 0} (f : A → B) (g : Forest A) → height (relabel f g) ≡ height g
+height_relabel f bare = refl
+height_relabel f (plant a below after) = ap₂ (λ (x y : ℕ). max (suc x) y) (height_relabel f below) (height_relabel f after)
+
+pub relabel_spots : {A B : Type 0} (g : A → B) (f : Forest A) → relabel (λ (p : Spot A). g p.node) (spots f) ≡ relabel g f
+relabel_spots g bare = refl
+relabel_spots g (plant a below after) = λ i. plant (g a) (relabel_spots g below i) (relabel_spots g after i)
+
+-- ── What holds of each of a list ──
+
+module _ {A : Type 0} (P : A → Type 0) where
+  pub all_append : (xs ys : List A) → AllByRecursion P xs → AllByRecursion P ys → AllByRecursion P (xs ++ ys)
+  all_append [] ys a b = b
+  all_append (x ∷ xs) ys a b = (a.0, all_append xs ys a.1 b)
+
+  pub all_front : (xs ys : List A) → AllByRecursion P (xs ++ ys) → AllByRecursion P xs
+  all_front [] ys a = tt
+  all_front (x ∷ xs) ys a = (a.0, all_front xs ys a.1)
+
+  pub all_back : (xs ys : List A) → AllByRecursion P (xs ++ ys) → AllByRecursion P ys
+  all_back [] ys a = a
+  all_back (x ∷ xs) ys a = all_back xs ys a.1
+
+-- ── The ends of ways ──
+
+-- nothing lies below a leaf
+abbrev pub Ends : {A : Type 0} → (A → Bool) → Forest A → Type 0
+Ends is bare = Unit {0}
+Ends is (plant a below after) = (is a ≡ true → below ≡ bare) × Ends is below × Ends is after
+
+module _ {A : Type 0} (is : A → Bool) where
+  pub ends_listing : (f : Forest A) → Ends is f → map (λ (w : Way A). w.end) (ways is f) ≡ filter is (listing f)
+  ends_listing bare t = refl
+  ends_listing (plant r below after) t =
+      map-append (λ (w : Way A). w.end) (cond (is r) (straight r ∷ []) (map (under r) (ways is below))) (ways is after)
+      ∙ go (is r) t.0 (ends_listing below t.1) (ends_listing after t.2)
+      ∙ ap (λ (l : List A). cond (is r) (r ∷ l) l) (sym (filter-append is (listing below) (listing after)))
+    where
+      go : (b : Bool) → (b ≡ true → below ≡ bare) → map (λ (w : Way A). w.end) (ways is below) ≡ filter is (listing below)
+          → map (λ (w : Way A). w.end) (ways is after) ≡ filter is (listing after)
+          → map (λ (w : Way A). w.end) (cond b (straight r ∷ []) (map (under r) (ways is below))) ++ map (λ (w : Way A). w.end) (ways is after)
+          ≡ cond b (r ∷ (filter is (listing below) ++ filter is (listing after))) (filter is (listing below) ++ filter is (listing after))
+      go true e p q = ap₂ (λ (f : Forest A) (l : List A). r ∷ (filter is (listing f) ++ l)) (sym (e refl)) q
+      go false e p q =
+          ap₂ (λ (x y : List A). x ++ y) (map_twice (λ (w : Way A). w.end) (under r) (λ (w : Way A). w.end) (λ w. refl) (ways is below) ∙ p) q
+
+-- ── A map's two sides ──
+
+-- what holds of rows and of no rows holds of them also where a map leaves them out
+pub sides_either : {A : Type 0} (P : Forest A → Type 0) (role : Role) (both : Bool) (f : Forest A) → P f → P bare → P (both_sides role both f)
+sides_either P own both f p q = p
+sides_either P listed both f p q = p
+sides_either P middle both f p q = p
+sides_either P entries both f p q = p
+sides_either P (broken n) both f p q = p
+sides_either P mapped true f p q = p
+sides_either P mapped false f p q = q

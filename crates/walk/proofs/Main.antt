@@ -1,16 +1,17 @@
 -- The leaf rows agree with the leaves that are kept-leaf.
 use Rattle.std.proofs.Common.{◌≡◌, ℕ, ◌*◌, ◌≤◌, Bool, false, List, [], ◌∷◌, map, filter, sym, refl, ap, ◌∙◌, subst, arith}
-use mathlib.Core.List.{map-append}
+use Rattle.std.proofs.lemmas.List.Folds.{flat_map-map}
+use mathlib.Core.List.{map-append, nil≢cons}
 use Rattle.std.proofs.lemmas.Bool.{eq-eqb}
 use Rattle.std.specs.List.{flat_map}
 use Rattle.walk.proofs.Follow.{Sum, fact, follow, levels_from, made_leaf, openings_from, readings_from, sum_of}
-use Rattle.walk.proofs.Lists.{count_relabel, joined_map, kept_by_map, listing_relabel, map_twice, paired_map}
+use Rattle.walk.proofs.Lists.{count_relabel, ends_listing, kept_by_map, listing_relabel, map_twice, paired_map}
 use Rattle.walk.proofs.Numbers.{ways_relabel}
 use Rattle.walk.proofs.Once.{once}
 use Rattle.walk.proofs.Order.{few_rows}
 use Rattle.walk.proofs.Owed.{owing_none}
 use Rattle.walk.proofs.Paths.{def_from, found, means, of_level, of_opening, opened, opening, rep_from}
-use Rattle.walk.proofs.Tidy.{leaf_listing, tidy_rows}
+use Rattle.walk.proofs.Tidy.{tidy_rows}
 use Rattle.walk.specs.Forests.{Spot, Way, along, on_way, ways}
 use Rattle.walk.specs.Labels.{numbered}
 use Rattle.walk.specs.Laws.{DefinitionLevelsOnce, LeafRows, Leveled, Paired, RepetitionLevelsOnce, TwoRowsAnElement, kept_leaves}
@@ -24,8 +25,8 @@ use Rattle.tree.specs.Forest.{Tree, alone, count, listing}
 pub paired : {A B C : Type 0} (f : A → C) (g : B → C) (R : A → B → Type 0) → ((x : A) (y : B) → f x ≡ g y → R x y)
     → (xs : List A) (ys : List B) → map f xs ≡ map g ys → Paired R xs ys
 paired f g R h [] [] e = tt
-paired f g R h [] (y ∷ ys) e = absurd (let z : ◌≡◌ {A = ℕ} 0 1 = cc in omega arith)
-paired f g R h (x ∷ xs) [] e = absurd (let z : ◌≡◌ {A = ℕ} 0 1 = cc in omega arith)
+paired f g R h [] (y ∷ ys) e = absurd (nil≢cons e)
+paired f g R h (x ∷ xs) [] e = absurd (nil≢cons (sym e))
 paired f g R h (x ∷ xs) (y ∷ ys) e =
     let head : f x ≡ g y = cc in
     let tail : map f xs ≡ map g ys = cc in
@@ -57,7 +58,7 @@ opens_once rs r d e =
 
 module _ (w : Way Made) (q : Way (Spot Read)) (e : sum_of w ≡ fact base false q) where
   joined_along : {Z : Type 0} (g : Row → List Z) → flat_map g (along (on_way made_row w)) ≡ flat_map (λ (r : Made). g r.row) (along w)
-  joined_along g = ap (flat_map g) (sym (map-append made_row w.above (w.end ∷ []))) ∙ joined_map g made_row (along w)
+  joined_along g = ap (flat_map g) (sym (map-append made_row w.above (w.end ∷ []))) ∙ flat_map-map g made_row (along w)
 
   pub reads_each : ReadsEach (on_way made_row w) q
   reads_each d h =
@@ -100,7 +101,7 @@ pub leaf_rows : LeafRows
 leaf_rows chosen t =
     ap (filter row_leaf) (listing_relabel made_row (rows chosen t))
     ∙ kept_by_map row_leaf made_leaf made_row (λ r. refl) (listing (rows chosen t))
-    ∙ ap (map made_row) (leaf_listing (rows chosen t) (tidy_rows chosen t))
+    ∙ ap (map made_row) (sym (ends_listing made_leaf (rows chosen t) (tidy_rows chosen t)))
     ∙ map_twice made_row (λ (w : Way Made). w.end) (λ (w : Way Made). w.end.row) (λ w. refl) (ways made_leaf (rows chosen t))
     ∙ sym (map_twice (λ (s : Sum). s.row) sum_of (λ (w : Way Made). w.end.row) (λ w. refl) (ways made_leaf (rows chosen t)))
     ∙ ap (map (λ (s : Sum). s.row)) (whole chosen t)

@@ -1,8 +1,8 @@
 -- Numbers count, and reading leaves every element and path as it is.
-use Rattle.std.proofs.Common.{◌≡◌, ℕ, zero, suc, ◌+◌, max, Bool, true, false, cond, List, [], ◌∷◌, ◌++◌, map, sym, refl, ap, ◌∙◌, ap₂, arith, length-append}
+use Rattle.std.proofs.Common.{◌≡◌, ℕ, zero, suc, ◌+◌, Bool, true, false, cond, List, [], ◌∷◌, ◌++◌, map, sym, refl, ap, ◌∙◌, ap₂, arith, length-append}
 use mathlib.Core.List.{map-append}
 use Rattle.std.specs.List.{range_with_len}
-use Rattle.walk.proofs.Lists.{count_relabel, map_square, map_twice}
+use Rattle.walk.proofs.Lists.{count_relabel, height_relabel, relabel_spots, map_square, map_twice}
 use Rattle.walk.specs.Forests.{Spot, Way, height, on_way, relabel, spots, straight, under, ways}
 use Rattle.walk.specs.Labels.{Numbered, is_leaf, leaf_count, leaf_node, numbered, numbered_as}
 use Rattle.walk.specs.Laws.{NumberedInOrder, unnumbered}
@@ -31,36 +31,24 @@ ways_relabel {A} {B} is f (plant a below after) =
 abbrev numbered_at : Spot Read → Numbered
 numbered_at p = p.node.of
 
-relabel_read : (t : Part) (g : Holder) (f : Forest Numbered) → relabel numbered_at (spots (reading t g f)) ≡ f
-unfolding reading
-relabel_read t g bare = refl
-relabel_read t g (plant x below after) =
-    λ i. plant x (relabel_read (child_part (role_of t x below) x.name below) (held_by t g x) below i) (relabel_read (next_part t) g after i)
-
 pub relabel_numbered : (n k : ℕ) (s : Forest Spelled) → relabel unnumbered (numbered n k s) ≡ relabel (numbered_as 0 0) s
 relabel_numbered n k bare = refl
 relabel_numbered n k (plant e below after) =
     λ i. plant (numbered_as 0 0 e) (relabel_numbered (n + 1) k below i)
     (relabel_numbered (n + 1 + count below) (k + cond (is_leaf e.kind) 1 (leaf_count below)) after i)
 
-relabel_of : (t : Part) (g : Holder) (f : Forest Numbered) → relabel (λ (x : Read). x.of) (reading t g f) ≡ f
+pub relabel_of : (t : Part) (g : Holder) (f : Forest Numbered) → relabel (λ (x : Read). x.of) (reading t g f) ≡ f
 unfolding reading
 relabel_of t g bare = refl
 relabel_of t g (plant x below after) =
     λ i. plant x (relabel_of (child_part (role_of t x below) x.name below) (held_by t g x) below i) (relabel_of (next_part t) g after i)
 
 pub height_reading : (t : Part) (g : Holder) (f : Forest Numbered) → height (reading t g f) ≡ height f
-unfolding reading
-height_reading t g bare = refl
-height_reading t g (plant x below after) =
-    ap₂ (λ (a b : ℕ). max (suc a) b)
-    (height_reading (child_part (role_of t x below) x.name below) (held_by t g x) below) (height_reading (next_part t) g after)
+height_reading t g f = sym (height_relabel (λ (x : Read). x.of) (reading t g f)) ∙ ap height (relabel_of t g f)
 
 pub height_numbered : (n k : ℕ) (s : Forest Spelled) → height (numbered n k s) ≡ height s
-height_numbered n k bare = refl
-height_numbered n k (plant e below after) =
-    ap₂ (λ (a b : ℕ). max (suc a) b) (height_numbered (n + 1) k below)
-    (height_numbered (n + 1 + count below) (k + cond (is_leaf e.kind) 1 (leaf_count below)) after)
+height_numbered n k s =
+    sym (height_relabel unnumbered (numbered n k s)) ∙ ap height (relabel_numbered n k s) ∙ height_relabel (numbered_as 0 0) s
 
 pub count_reading : (t : Part) (g : Holder) (f : Forest Numbered) → count (reading t g f) ≡ count f
 count_reading t g f = sym (count_relabel (λ (x : Read). x.of) (reading t g f)) ∙ ap count (relabel_of t g f)
@@ -108,7 +96,7 @@ leaves_count n k (plant e below after) =
 pub numbered_in_order : NumberedInOrder
 numbered_in_order t =
     record {
-      paths = ways_relabel leaf_node numbered_at (spots (read t)) ∙ ap (ways leaf_node) (relabel_read as_root nobody (numbered 0 0 (alone t)));
+      paths = ways_relabel leaf_node numbered_at (spots (read t)) ∙ ap (ways leaf_node) ((relabel_spots (λ (x : Read). x.of) (read t) ∙ relabel_of as_root nobody (numbered 0 0 (alone t))));
       elements = relabel_numbered 0 0 (alone t);
       numbers = numbers_count 0 0 (alone t);
       leaf_numbers = leaves_count 0 0 (alone t);

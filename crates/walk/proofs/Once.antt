@@ -1,14 +1,9 @@
 -- One alone among many lists that are joined.
-use Rattle.std.proofs.Common.{◌≡◌, ℕ, zero, suc, Bool, true, false, cond, List, [], ◌∷◌, ◌++◌, filter, sym, refl, ap, ◌∙◌, subst, inl, inr, arith}
+use Rattle.std.proofs.Common.{◌≡◌, ℕ, zero, suc, Bool, true, false, cond, List, [], ◌∷◌, ◌++◌, filter, sym, refl, ap, ◌∙◌, subst, inl, inr}
+use mathlib.Core.List.{nil≢cons}
 use Rattle.std.specs.List.{flat_map}
 use Rattle.std.proofs.lemmas.List.Elements.{filter-append}
 use Rattle.walk.specs.Levels.{Among, At}
-
-differ : {A : Type 0} → false ≡ true → A
-differ e = absurd (let z : ◌≡◌ {A = ℕ} 0 1 = cc in omega arith)
-
-empty : {A B : Type 0} (x : A) (xs : List A) → x ∷ xs ≡ [] → B
-empty x xs e = absurd (let z : ◌≡◌ {A = ℕ} 0 1 = cc in omega arith)
 
 module _ {Z : Type 0} where
   pub among_left : (y : Z) (xs ys : List Z) → Among y xs → Among y (xs ++ ys)
@@ -78,10 +73,10 @@ module _ {Z : Type 0} where
 
       nothing_left : (us vs : List Z) → us ++ vs ≡ [] → (us ≡ []) × (vs ≡ [])
       nothing_left [] vs e = (refl, e)
-      nothing_left (u ∷ us) vs e = empty u (us ++ vs) e
+      nothing_left (u ∷ us) vs e = absurd (nil≢cons (sym e))
 
       pub once : (xs : List X) → filter t (flat_map g xs) ≡ z ∷ [] → Once g z xs
-      once [] e = empty z [] (sym e)
+      once [] e = absurd (nil≢cons e)
       once (x ∷ xs) e = go (filter t (g x)) refl (once xs) (sym (filter-append t (g x) (flat_map g xs)) ∙ e)
         where
           go : (us : List Z) → filter t (g x) ≡ us → (filter t (flat_map g xs) ≡ z ∷ [] → Once g z xs)

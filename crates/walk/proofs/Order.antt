@@ -1,7 +1,7 @@
 -- No row's repetition level is above its definition level; and the elements that are read are the schema's.
-use Rattle.std.proofs.Common.{◌≡◌, ℕ, suc, ◌+◌, ◌*◌, ◌≤◌, Bool, true, false, List, [], ◌∷◌, ◌++◌, length, None, ap, arith}
+use Rattle.std.proofs.Common.{◌≡◌, ℕ, suc, ◌+◌, ◌*◌, ◌≤◌, Bool, true, false, List, [], ◌∷◌, length, None, ap, arith, length-append}
 use Rattle.std.specs.List.{AllByRecursion}
-use Rattle.walk.proofs.Lists.{count_plant}
+use Rattle.walk.proofs.Lists.{all_append, all_back, all_front, count_plant, sides_either}
 use Rattle.walk.proofs.Numbers.{count_numbered, count_reading, height_numbered, height_reading}
 use Rattle.walk.specs.Forests.{beside, height, over}
 use Rattle.walk.specs.Hints.{nothing}
@@ -14,7 +14,6 @@ use Rattle.walk.specs.Shape.Items.{of_list}
 use Rattle.walk.specs.Yields.{both_yield}
 use Rattle.walk.specs.declared.levels.Levels.{Levels}
 use Rattle.walk.specs.declared.role.Role.{Role}
-use Rattle.walk.specs.declared.role.Role.TheVariants.{Broken as broken, Entries as entries, Listed as listed, Mapped as mapped, Middle as middle, Own as own}
 use Rattle.schema.specs.Words.{Spelled}
 use Rattle.schema.specs.declared.basic.Repetition.{Repetition}
 use Rattle.schema.specs.declared.basic.Repetition.TheVariants.{Optional as optional, Repeated as repeated, Required as required}
@@ -27,31 +26,22 @@ abbrev pub Lows : ℕ → Made → Type 0
 Lows most r = Low most r.row
 
 module _ (most : ℕ) where
-  each_append : (xs ys : List Made) → AllByRecursion (Lows most) xs → AllByRecursion (Lows most) ys → AllByRecursion (Lows most) (xs ++ ys)
-  each_append [] ys a b = b
-  each_append (x ∷ xs) ys a b = (a.0, each_append xs ys a.1 b)
+  abbrev AllLow : Forest Made → Type 0
+  AllLow f = AllByRecursion (Lows most) (listing f)
 
-  each_front : (xs ys : List Made) → AllByRecursion (Lows most) (xs ++ ys) → AllByRecursion (Lows most) xs
-  each_front [] ys a = tt
-  each_front (x ∷ xs) ys a = (a.0, each_front xs ys a.1)
-
-  each_back : (xs ys : List Made) → AllByRecursion (Lows most) (xs ++ ys) → AllByRecursion (Lows most) ys
-  each_back [] ys a = a
-  each_back (x ∷ xs) ys a = each_back xs ys a.1
-
-  each_beside : (f g : Forest Made) → AllByRecursion (Lows most) (listing f) → AllByRecursion (Lows most) (listing g) → AllByRecursion (Lows most) (listing (beside f g))
+  each_beside : (f g : Forest Made) → AllLow f → AllLow g → AllLow (beside f g)
   each_beside bare g a b = b
   each_beside (plant r below after) g a b = (
     a.0,
-    each_append (listing below) (listing (beside after g)) (each_front (listing below) (listing after) a.1)
-        (each_beside after g (each_back (listing below) (listing after) a.1) b),
+    all_append (Lows most) (listing below) (listing (beside after g)) (all_front (Lows most) (listing below) (listing after) a.1)
+        (each_beside after g (all_back (Lows most) (listing below) (listing after) a.1) b),
   )
 
-  each_over : (rs : List Made) (f : Forest Made) → AllByRecursion (Lows most) rs → AllByRecursion (Lows most) (listing f) → AllByRecursion (Lows most) (listing (over rs f))
+  each_over : (rs : List Made) (f : Forest Made) → AllByRecursion (Lows most) rs → AllLow f → AllLow (over rs f)
   each_over rs bare a b = tt
   each_over [] (plant x below after) a b = b
   each_over (r ∷ rs) (plant x below after) a b =
-      (a.0, each_append (listing (over rs (plant x below after))) [] (each_over rs (plant x below after) a.1 b) tt)
+      (a.0, all_append (Lows most) (listing (over rs (plant x below after))) [] (each_over rs (plant x below after) a.1 b) tt)
 
   abbrev In : Levels → Type 0
   In v = (v.rep ≤ v.def) × (v.def ≤ most)
@@ -65,28 +55,19 @@ module _ (most : ℕ) where
   each_struct x false r v h = tt
   each_struct x true r v h = (h, tt)
 
-  each_sides : (role : Role) (both : Bool) (f : Forest Made) → AllByRecursion (Lows most) (listing f) → AllByRecursion (Lows most) (listing (both_sides role both f))
-  each_sides own both f a = a
-  each_sides listed both f a = a
-  each_sides middle both f a = a
-  each_sides entries both f a = a
-  each_sides (broken n) both f a = a
-  each_sides mapped true f a = a
-  each_sides mapped false f a = tt
-
-  each_leaf : (c : Bool) (x : Read) (r : Repetition) (v : Levels) → In v → AllByRecursion (Lows most) (listing (leaf_part c x r v))
+  each_leaf : (c : Bool) (x : Read) (r : Repetition) (v : Levels) → In v → AllLow (leaf_part c x r v)
   each_leaf true x r v h = (h, tt)
   each_leaf false x r v h = tt
 
   module _ (chosen : ℕ → Bool) where
     each_element : (k : Kind) (x : Read) (role : Role) (r : Repetition) (v : Levels) (p both : Bool) (inner : Forest Made)
-        → In v → AllByRecursion (Lows most) (listing inner) → AllByRecursion (Lows most) (listing (element_rows chosen k x role r v p both inner))
+        → In v → AllLow inner → AllLow (element_rows chosen k x role r v p both inner)
     each_element (leaf c) x role r v p both inner h a =
         each_over (wrap x of_list r v p) (leaf_part (chosen x.of.leaf_number) x r v) (each_wrap x of_list r v p h) (each_leaf (chosen x.of.leaf_number) x r v h)
     each_element (group n) x role r v p both inner h a =
         each_over (group_rows x (items_of role) (has_own role) r v p) (both_sides role both inner)
-        (each_append (wrap x (items_of role) r v p) (struct_part x (has_own role) r v) (each_wrap x (items_of role) r v p h) (each_struct x (has_own role) r v h))
-        (each_sides role both inner a)
+        (all_append (Lows most) (wrap x (items_of role) r v p) (struct_part x (has_own role) r v) (each_wrap x (items_of role) r v p h) (each_struct x (has_own role) r v h))
+        (sides_either AllLow role both inner a tt)
 
 low_raised : (v : Levels) (r : Repetition) → v.rep ≤ v.def → ((raised v r).rep ≤ (raised v r).def) × ((raised v r).def ≤ suc v.def)
 low_raised v required h = (h, omega arith)
@@ -94,7 +75,7 @@ low_raised v optional h = (omega arith, omega arith)
 low_raised v repeated h = (omega arith, omega arith)
 
 module _ (most : ℕ) (chosen : ℕ → Bool) where
-  ordered : (f : Forest Read) (v : Levels) (p : Bool) → v.rep ≤ v.def → v.def + height f ≤ most → AllByRecursion (Lows most) (listing (shape chosen v p f))
+  ordered : (f : Forest Read) (v : Levels) (p : Bool) → v.rep ≤ v.def → v.def + height f ≤ most → AllLow most (shape chosen v p f)
   unfolding shape
   ordered bare v p h k = tt
   ordered (plant x below after) v p h k =
@@ -110,7 +91,7 @@ module _ (most : ℕ) (chosen : ℕ → Bool) where
 
 -- the root, which is required, adds to no level
 ordered_root : (most : ℕ) (chosen : ℕ → Bool) (x : Read) (below : Forest Read) (v : Levels) (p : Bool) → x.of.repetition ≡ required
-    → v.rep ≤ v.def → v.def + height below ≤ most → AllByRecursion (Lows most) (listing (shape chosen v p (plant x below bare)))
+    → v.rep ≤ v.def → v.def + height below ≤ most → AllLow most (shape chosen v p (plant x below bare))
 unfolding shape
 ordered_root most chosen x below v p e h k =
     let r = x.of.repetition in
@@ -143,25 +124,12 @@ few_wrap x i optional v p = omega arith
 few_wrap x i repeated v p = omega arith
 
 few_group : (x : Read) (i : Items) (o : Bool) (r : Repetition) (v : Levels) (p : Bool) → length (group_rows x i o r v p) ≤ 2
-few_group x i true required v p = omega arith
-few_group x i true optional v p = omega arith
-few_group x i true repeated v p = omega arith
-few_group x i false required v p = omega arith
-few_group x i false optional v p = omega arith
-few_group x i false repeated v p = omega arith
+few_group x i true r v p = omega (arith, length-append (wrap x i r v p) (struct_part x true r v), few_wrap x i r v p)
+few_group x i false r v p = omega (arith, length-append (wrap x i r v p) [], few_wrap x i r v p)
 
 few_leaf : (c : Bool) (x : Read) (r : Repetition) (v : Levels) → count (leaf_part c x r v) ≤ 1
 few_leaf true x r v = omega arith
 few_leaf false x r v = omega arith
-
-few_sides : (role : Role) (both : Bool) (f : Forest Made) → count (both_sides role both f) ≤ count f
-few_sides own both f = omega arith
-few_sides listed both f = omega arith
-few_sides middle both f = omega arith
-few_sides entries both f = omega arith
-few_sides (broken n) both f = omega arith
-few_sides mapped true f = omega arith
-few_sides mapped false f = omega arith
 
 module _ (chosen : ℕ → Bool) where
   few_element : (k : Kind) (x : Read) (role : Role) (r : Repetition) (v : Levels) (p both : Bool) (inner : Forest Made)
@@ -173,7 +141,7 @@ module _ (chosen : ℕ → Bool) where
         arith,
         count_over (group_rows x (items_of role) (has_own role) r v p) (both_sides role both inner),
         few_group x (items_of role) (has_own role) r v p,
-        few_sides role both inner,
+        sides_either (λ (f : Forest Made). count f ≤ count inner) role both inner (omega arith) (omega arith),
       )
 
   pub few : (f : Forest Read) (v : Levels) (p : Bool) → count (shape chosen v p f) ≤ 2 * count f

@@ -1,5 +1,6 @@
 -- The walking order is the order of the table, and the faults of one element come by rank.
 use Rattle.std.proofs.Common.{◌≡◌, ℕ, ◌+◌, ◌≤◌, Bool, true, false, cond, not, ◌&&◌, ◌||◌, List, [], ◌∷◌, ◌++◌, map, Some, sym, refl, ap, ◌∙◌, subst, ap₂, arith, length-append, None}
+use Rattle.walk.proofs.Lists.{all_append}
 use mathlib.Core.List.{map-append}
 use Rattle.std.specs.List.{range_with_len, AllByRecursion}
 use Rattle.walk.proofs.Numbers.{counting_append}
@@ -82,10 +83,6 @@ record Fine (e a b : ℕ) (rs : List Refusal) : Type 0 where
 one : (e a b : ℕ) (x : Bool) (r : Refusal) → element_of r ≡ Some e → a ≤ rank r → rank r ≤ b → Fine e a b (when x r)
 one e a b true r n p q = record { ranked = (p, q); names = (n, tt) }
 one e a b false r n p q = record { ranked = omega (arith, p, q); names = tt }
-
-all_append : {A : Type 0} (P : A → Type 0) (xs ys : List A) → AllByRecursion P xs → AllByRecursion P ys → AllByRecursion P (xs ++ ys)
-all_append P [] ys p q = q
-all_append P (x ∷ xs) ys p q = (p.0, all_append P xs ys p.1 q)
 
 both : {e a b c : ℕ} {xs ys : List Refusal} → Fine e a b xs → Fine e b c ys → Fine e a c (xs ++ ys)
 both {e} {a} {b} {c} {xs} {ys} p q =

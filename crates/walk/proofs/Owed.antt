@@ -1,5 +1,5 @@
 -- In a schema that is read, what an optional LIST or MAP group passes-null falls to a repeated child.
-use Rattle.std.proofs.Common.{◌≡◌, ℕ, Bool, true, false, cond, not, ◌&&◌, ◌||◌, List, sym, refl, ap, ◌∙◌, subst, arith, Some, None}
+use Rattle.std.proofs.Common.{◌≡◌, ℕ, Bool, true, false, cond, not, ◌&&◌, ◌||◌, List, sym, refl, ap, ◌∙◌, subst, Some, None}
 use Rattle.walk.proofs.Follow.{Owing}
 use Rattle.walk.specs.Labels.{Numbered, is_leaf, is_optional, is_repeated, repeated_element}
 use Rattle.walk.specs.Reading.{Holder, Part, by_annotation, child_part, entries_role, first_is_element, held_by, list_child, list_role, map_child, map_role, next_part, reading, role_of}
@@ -28,16 +28,13 @@ abbrev Roots : Bool → Forest Numbered → Type 0
 Roots b bare = Unit {0}
 Roots b (plant x below after) = (b ≡ true → x.repetition ≡ repeated) × Roots b after
 
-differ : {A : Type 0} → false ≡ true → A
-differ e = absurd (let z : ◌≡◌ {A = ℕ} 0 1 = cc in omega arith)
-
 roots_free : (f : Forest Numbered) → Roots false f
 roots_free bare = tt
-roots_free (plant x below after) = (differ, roots_free after)
+roots_free (plant x below after) = ((λ e. cc), roots_free after)
 
 is_rep : (r : Repetition) → is_repeated r ≡ true → r ≡ repeated
-is_rep required e = differ e
-is_rep optional e = differ e
+is_rep required e = cc
+is_rep optional e = cc
 is_rep repeated e = refl
 
 -- what a role wants of the element and of what is below it
@@ -117,13 +114,13 @@ repeated_owes r e h = ap is_optional (sym e) ∙ h
 
 fine : (r : Repetition) (name : List ℕ) (below : Forest Numbered) (role : Role) → Wants r below role → Fine r name below role
 unfolding Fine
-fine r name below own w = (differ, roots_free below)
+fine r name below own w = ((λ e. cc), roots_free below)
 fine r name below listed w =
     (λ _. group_either (first_is_element name below), subst (λ (b : Bool). Roots b below) (sym (group_either (first_is_element name below))) w)
 fine r name below middle w = (λ e. repeated_owes r w e, roots_free below)
 fine r name below mapped w = (λ _. refl, w)
 fine r name below entries w = (λ e. repeated_owes r w e, roots_free below)
-fine r name below (broken n) w = (differ, roots_free below)
+fine r name below (broken n) w = ((λ e. cc), roots_free below)
 
 next_same : (t : Part) → from_group (next_part t) ≡ from_group t
 next_same as_root = refl
@@ -145,4 +142,4 @@ owing t g (plant x below after) p h r =
     )
 
 pub owing_none : (g : Holder) (f : Forest Numbered) → Owing false (reading as_root g f)
-owing_none g f = owing as_root g f false differ (roots_free f)
+owing_none g f = owing as_root g f false (λ e. cc) (roots_free f)

@@ -1,5 +1,6 @@
 -- The reading of lists and maps agrees with the published rules.
-use Rattle.std.proofs.Common.{◌≡◌, ℕ, Bool, true, false, cond, not, ◌&&◌, ◌||◌, ◌⊎◌, List, ◌++◌, map, Some, None, codes, Decides, Option, sym, refl, ap, ◌∙◌, ap₂, inl, inr, arith}
+use Rattle.std.proofs.Common.{◌≡◌, ℕ, Bool, true, false, cond, not, ◌&&◌, ◌||◌, ◌⊎◌, List, ◌++◌, map, Some, None, codes, Decides, Option, refl, ap, ◌∙◌, ap₂, inl, inr}
+use Rattle.std.proofs.lemmas.Bool.{false_from_ne_true, false≢true, or_right}
 use Rattle.std.specs.Str.{bytes_eq}
 use Rattle.std.proofs.lemmas.Slice.Eq.{bytes_eq-Decides}
 use Rattle.walk.specs.Forests.{planted, roots}
@@ -22,23 +23,13 @@ use Rattle.tree.specs.Forest.Forest.{bare, plant}
 use Rattle.schema.specs.declared.basic.Annotation.TheVariants as a
 use Rattle.schema.specs.declared.refusal.Refusal.TheVariants as no
 
-differ : {A : Type 0} → true ≡ false → A
-differ e = absurd (let z : ◌≡◌ {A = ℕ} 0 1 = cc in omega arith)
-
 -- ── Tests ──
 
-decides_yes : {P : Type 0} (b : Bool) → Decides b P → P → b ≡ true
-decides_yes b d p = d.1 p
-
-decides_no : {P : Type 0} (b : Bool) → Decides b P → (P → ⊥) → b ≡ false
-decides_no true d p = absurd (p (d.0 refl))
-decides_no false d p = refl
-
 same_yes : (xs ys : List ℕ) → xs ≡ ys → bytes_eq xs ys ≡ true
-same_yes xs ys e = decides_yes (bytes_eq xs ys) (bytes_eq-Decides xs ys) e
+same_yes xs ys e = (bytes_eq-Decides xs ys).1 e
 
 same_no : (xs ys : List ℕ) → (xs ≡ ys → ⊥) → bytes_eq xs ys ≡ false
-same_no xs ys e = decides_no (bytes_eq xs ys) (bytes_eq-Decides xs ys) e
+same_no xs ys e = false_from_ne_true (bytes_eq xs ys) (λ h. e ((bytes_eq-Decides xs ys).0 h))
 
 not_repeated : (r : Repetition) → (r ≡ repeated → ⊥) → is_repeated r ≡ false
 not_repeated required e = refl
@@ -46,7 +37,7 @@ not_repeated optional e = refl
 not_repeated repeated e = absurd (e refl)
 
 plain : (k : Kind) → Unannotated k → is_leaf k ≡ false → k ≡ group None
-plain (leaf l) u e = differ e
+plain (leaf l) u e = cc
 plain (group None) u e = refl
 plain (group (Some a.List)) u e = absurd u
 plain (group (Some a.Map)) u e = absurd u
@@ -54,11 +45,7 @@ plain (group (Some a.MapKeyValue)) u e = absurd u
 
 is_a_leaf : (gn cn : List ℕ) (k : Kind) (cb : Forest Numbered) → is_leaf k ≡ true → is_element gn cn k cb ≡ true
 is_a_leaf gn cn (leaf l) cb e = refl
-is_a_leaf gn cn (group a) cb e = differ (sym e)
-
-or_right : (b c : Bool) → c ≡ true → (b || c) ≡ true
-or_right true c e = refl
-or_right false c e = e
+is_a_leaf gn cn (group a) cb e = cc
 
 named_yes : (gn cn : List ℕ) → (cn ≡ codes "array") ⊎ (cn ≡ gn ++ codes "_tuple") → names_element gn cn ≡ true
 named_yes gn cn (inl e) = ap (λ (b : Bool). b || bytes_eq cn (gn ++ codes "_tuple")) (same_yes cn (codes "array") e)
@@ -132,15 +119,15 @@ lists_as_published g c cb kind single again bare_c =
 
 either_repeated : (r : Repetition) → (r ≡ repeated) ⊎ (r ≡ repeated → ⊥)
 either_repeated repeated = inl refl
-either_repeated required = inr (λ e. let z : ◌≡◌ {A = ℕ} 0 1 = cc in omega arith)
-either_repeated optional = inr (λ e. let z : ◌≡◌ {A = ℕ} 0 1 = cc in omega arith)
+either_repeated required = inr (λ e. false≢true (ap is_repeated e))
+either_repeated optional = inr (λ e. false≢true (ap is_repeated e))
 
 either_same : (xs ys : List ℕ) → (xs ≡ ys) ⊎ (xs ≡ ys → ⊥)
 either_same xs ys = go (bytes_eq xs ys) (bytes_eq-Decides xs ys)
   where
     go : (b : Bool) → Decides b (xs ≡ ys) → (xs ≡ ys) ⊎ (xs ≡ ys → ⊥)
     go true d = inl (d.0 refl)
-    go false d = inr (λ e. differ (sym (d.1 e)))
+    go false d = inr (λ e. false≢true (d.1 e))
 
 module _ (name : List ℕ) (c : Numbered) where
   abbrev SaysOf : Forest Numbered → Type 0
@@ -157,7 +144,7 @@ module _ (name : List ℕ) (c : Numbered) where
       go (inr e) (inr k) (inr j) = (x, (x.repetition, otherwise l refl e k j))
 
   group_says : (cb : Forest Numbered) → is_leaf c.kind ≡ false → planted cb ≡ true → SaysOf cb
-  group_says bare l e = differ (sym e)
+  group_says bare l e = absurd (false≢true e)
   group_says (plant x xb bare) l e = one_says x xb l
   group_says (plant x xb (plant y yb more)) l e = (c, (required, several_fields l refl))
 

@@ -48,61 +48,47 @@ pub record Found (n : ℕ) (rs : List Repetition) (d : ℕ) : Type 0 where
   pub says : Says here meaning
   pub sole : filter (of_level d) (readings_from n rs) ≡ means d meaning ∷ []
 
-here_found : (n d : ℕ) (r : Repetition) (m : Meaning) (rs : List Repetition) → Says r m → n ≡ d
-    → filter (of_level d) (readings_from n (r ∷ rs)) ≡ cond (eqb n d) (means n m ∷ filter (of_level d) (readings_from (suc n) rs)) (filter (of_level d) (readings_from (suc n) rs))
-    → Found n (r ∷ rs) d
-here_found n d r m rs t e k =
-    record {
-      meaning = m;
-      before = [];
-      here = r;
-      after = rs;
-      splits = refl;
-      level = omega arith;
-      says = t;
-      sole = k ∙ rw (eq-eqb n d e) (λ i. means (e i) m ∷ past d (suc n) rs (omega arith) i);
-    }
-
-later_found : (n d : ℕ) (r : Repetition) (m : Meaning) (rs : List Repetition) → definition_level (r ∷ []) ≡ 1 → (n ≡ d → ⊥)
-    → filter (of_level d) (readings_from n (r ∷ rs)) ≡ cond (eqb n d) (means n m ∷ filter (of_level d) (readings_from (suc n) rs)) (filter (of_level d) (readings_from (suc n) rs))
-    → ((bs : List Repetition) → definition_level (r ∷ bs) ≡ suc (definition_level bs))
-    → Found (suc n) rs d → Found n (r ∷ rs) d
-later_found n d r m rs t e k c f =
+-- a level found further on
+found_later : (n m : ℕ) (r : Repetition) (rs : List Repetition) (d : ℕ) → ((bs : List Repetition) → n + definition_level (r ∷ bs) ≡ m + definition_level bs)
+    → filter (of_level d) (readings_from n (r ∷ rs)) ≡ filter (of_level d) (readings_from m rs) → Found m rs d → Found n (r ∷ rs) d
+found_later n m r rs d c e f =
     record {
       meaning = f.meaning;
       before = r ∷ f.before;
       here = f.here;
       after = f.after;
       splits = ap {B = List Repetition} (λ l. r ∷ l) f.splits;
-      level = omega (arith, c f.before, f.level);
+      level = c f.before ∙ f.level;
       says = f.says;
-      sole = k ∙ rw (ne_eqb n d e) f.sole;
+      sole = e ∙ f.sole;
     }
+
+-- the element before the others reads one level, and a level is found at it or further on
+level_found : (n d : ℕ) (r : Repetition) (m : Meaning) (rs : List Repetition) → Says r m
+    → filter (of_level d) (readings_from n (r ∷ rs)) ≡ cond (eqb n d) (means n m ∷ filter (of_level d) (readings_from (suc n) rs)) (filter (of_level d) (readings_from (suc n) rs))
+    → ((bs : List Repetition) → definition_level (r ∷ bs) ≡ suc (definition_level bs))
+    → n ≤ d → (suc n ≤ d → Found (suc n) rs d) → Found n (r ∷ rs) d
+level_found n d r m rs t k c h more = go (cases_eq n d)
+  where
+    go : (n ≡ d) ⊎ (n ≡ d → ⊥) → Found n (r ∷ rs) d
+    go (inl e) =
+        record {
+          meaning = m;
+          before = [];
+          here = r;
+          after = rs;
+          splits = refl;
+          level = omega arith;
+          says = t;
+          sole = k ∙ rw (eq-eqb n d e) (λ i. means (e i) m ∷ past d (suc n) rs (omega arith) i);
+        }
+    go (inr e) = found_later n (suc n) r rs d (λ bs. omega (arith, c bs)) (k ∙ rw (ne_eqb n d e) refl) (more (omega arith))
 
 pub found : (n : ℕ) (rs : List Repetition) (d : ℕ) → n ≤ d → d < n + definition_level rs → Found n rs d
 found n [] d h k = absurd (omega arith)
-found n (required ∷ rs) d h k =
-    let f = found n rs d h k in
-    record {
-      meaning = f.meaning;
-      before = required ∷ f.before;
-      here = f.here;
-      after = f.after;
-      splits = ap {B = List Repetition} (λ l. required ∷ l) f.splits;
-      level = f.level;
-      says = f.says;
-      sole = f.sole;
-    }
-found n (optional ∷ rs) d h k = go (cases_eq n d) (found (suc n) rs d)
-  where
-    go : (n ≡ d) ⊎ (n ≡ d → ⊥) → (suc n ≤ d → d < suc n + definition_level rs → Found (suc n) rs d) → Found n (optional ∷ rs) d
-    go (inl e) r = here_found n d optional absent rs refl e refl
-    go (inr e) r = later_found n d optional absent rs refl e refl (λ bs. refl) (r (omega arith) (omega arith))
-found n (repeated ∷ rs) d h k = go (cases_eq n d) (found (suc n) rs d)
-  where
-    go : (n ≡ d) ⊎ (n ≡ d → ⊥) → (suc n ≤ d → d < suc n + definition_level rs → Found (suc n) rs d) → Found n (repeated ∷ rs) d
-    go (inl e) r = here_found n d repeated no_items rs refl e refl
-    go (inr e) r = later_found n d repeated no_items rs refl e refl (λ bs. refl) (r (omega arith) (omega arith))
+found n (required ∷ rs) d h k = found_later n n required rs d (λ bs. refl) refl (found n rs d h k)
+found n (optional ∷ rs) d h k = level_found n d optional absent rs refl refl (λ bs. refl) h (λ l. found (suc n) rs d l (omega arith))
+found n (repeated ∷ rs) d h k = level_found n d repeated no_items rs refl refl (λ bs. refl) h (λ l. found (suc n) rs d l (omega arith))
 
 -- ── Repetition levels ──
 
@@ -129,30 +115,25 @@ pub record Opened (v : Levels) (rs : List Repetition) (r : ℕ) : Type 0 where
   pub depth : suc (v.def + definition_level before) ≡ stands
   pub sole : filter (of_opening r) (openings_from v rs) ≡ opening r stands ∷ []
 
+-- an opening found further on, below levels w
+opened_later : (v w : Levels) (q : Repetition) (rs : List Repetition) (r : ℕ) → ((bs : List Repetition) → v.rep + repetition_level (q ∷ bs) ≡ w.rep + repetition_level bs)
+    → ((bs : List Repetition) → v.def + definition_level (q ∷ bs) ≡ w.def + definition_level bs)
+    → filter (of_opening r) (openings_from v (q ∷ rs)) ≡ filter (of_opening r) (openings_from w rs) → Opened w rs r → Opened v (q ∷ rs) r
+opened_later v w q rs r a b e f =
+    record {
+      stands = f.stands;
+      before = q ∷ f.before;
+      after = f.after;
+      splits = ap {B = List Repetition} (λ l. q ∷ l) f.splits;
+      level = ap suc (a f.before) ∙ f.level;
+      depth = ap suc (b f.before) ∙ f.depth;
+      sole = e ∙ f.sole;
+    }
+
 pub opened : (v : Levels) (rs : List Repetition) (r : ℕ) → v.rep < r → r ≤ v.rep + repetition_level rs → Opened v rs r
 opened v [] r h k = absurd (omega arith)
-opened v (required ∷ rs) r h k =
-    let f = opened v rs r h k in
-    record {
-      stands = f.stands;
-      before = required ∷ f.before;
-      after = f.after;
-      splits = ap {B = List Repetition} (λ l. required ∷ l) f.splits;
-      level = f.level;
-      depth = f.depth;
-      sole = f.sole;
-    }
-opened v (optional ∷ rs) r h k =
-    let f = opened (raised v optional) rs r h k in
-    record {
-      stands = f.stands;
-      before = optional ∷ f.before;
-      after = f.after;
-      splits = ap {B = List Repetition} (λ l. optional ∷ l) f.splits;
-      level = f.level;
-      depth = omega (arith, f.depth);
-      sole = f.sole;
-    }
+opened v (required ∷ rs) r h k = opened_later v v required rs r (λ bs. refl) (λ bs. refl) refl (opened v rs r h k)
+opened v (optional ∷ rs) r h k = opened_later v (raised v optional) optional rs r (λ bs. refl) (λ bs. omega arith) refl (opened (raised v optional) rs r h k)
 opened v (repeated ∷ rs) r h k = go (cases_eq (suc v.rep) r) (opened (raised v repeated) rs r)
   where
     go : (suc v.rep ≡ r) ⊎ (suc v.rep ≡ r → ⊥) → (suc v.rep < r → r ≤ suc v.rep + repetition_level rs → Opened (raised v repeated) rs r) → Opened v (repeated ∷ rs) r
@@ -167,13 +148,4 @@ opened v (repeated ∷ rs) r h k = go (cases_eq (suc v.rep) r) (opened (raised v
           sole = rw (eq-eqb (suc v.rep) r e) (λ i. opening (e i) (suc v.def) ∷ past_open r (raised v repeated) rs (omega arith) i);
         }
     go (inr e) ih =
-        let f = ih (omega arith) (omega arith) in
-        record {
-          stands = f.stands;
-          before = repeated ∷ f.before;
-          after = f.after;
-          splits = ap {B = List Repetition} (λ l. repeated ∷ l) f.splits;
-          level = omega (arith, f.level);
-          depth = omega (arith, f.depth);
-          sole = rw (ne_eqb (suc v.rep) r e) f.sole;
-        }
+        opened_later v (raised v repeated) repeated rs r (λ bs. omega arith) (λ bs. omega arith) (rw (ne_eqb (suc v.rep) r e) refl) (ih (omega arith) (omega arith))

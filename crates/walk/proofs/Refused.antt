@@ -1,7 +1,11 @@
 -- The walk is refused with the first fault in walking order.
-use Rattle.std.proofs.Common.{◌≡◌, ℕ, Bool, false, List, [], ◌∷◌, ◌++◌, Some, None, Ok, Err, sym, refl, ap, ◌∙◌, ap₂, append_assoc, arith}
+use Rattle.std.proofs.Common.{◌≡◌, ℕ, Bool, false, List, [], ◌∷◌, ◌++◌, Some, None, Ok, Err, sym, refl, ap, ◌∙◌, ap₂, append_assoc}
+use Rattle.walk.proofs.Numbers.{relabel_of}
+use mathlib.Core.List.{nil≢cons}
+use Rattle.std.proofs.lemmas.List.Concat.{flat_map-append}
+use Rattle.std.proofs.lemmas.Option.{none-some}
 use Rattle.std.specs.List.{flat_map, AllByRecursion}
-use Rattle.walk.proofs.Firsts.{element_first, head, heads}
+use Rattle.walk.proofs.Firsts.{element_first, head, heads, of_label}
 use Rattle.walk.specs.Faults.{Typing, below_group, checks, refusals}
 use Rattle.walk.specs.Forests.{Spot, relabel, trees}
 use Rattle.walk.specs.Handing.{compares_names, field_hint, hands_on, hinting, wrapped}
@@ -10,7 +14,7 @@ use Rattle.walk.specs.Labels.{Numbered, numbered}
 use Rattle.walk.specs.Laws.{RefusedFirst}
 use Rattle.walk.specs.Reading.{Holder, Part, Read, child_part, held_by, next_part, nobody, reading, role_of}
 use Rattle.walk.specs.Reading.Part.{as_root}
-use Rattle.walk.specs.Refusing.{Faultless, FirstFault, below_groups, faults_at, of_label, walked}
+use Rattle.walk.specs.Refusing.{Faultless, FirstFault, below_groups, faults_at, walked}
 use Rattle.walk.specs.Walk.{all_refusals, full_rows, handed, unless_refused}
 use Rattle.schema.specs.declared.element.Kind.{Kind}
 use Rattle.schema.specs.declared.element.Kind.TheVariants.{Group as group, Leaf as leaf}
@@ -24,14 +28,13 @@ abbrev Right : Forest Read → Type 0
 Right bare = Unit {0}
 Right (plant x below after) = (x.role ≡ role_of x.part x.of (relabel of_label below)) × Right below × Right after
 
-pub labels_same : (n : Bool) (u h : Forest Hint) (t : Part) (g : Holder) (f : Forest Numbered) → relabel of_label (hinting n u h (reading t g f)) ≡ f
-unfolding hinting reading
-labels_same n u h t g bare = refl
-labels_same n u h t g (plant x below after) =
-    let role = role_of t x below in
-    λ i. plant x
-    (labels_same (compares_names role) (field_hint t u (sole h)) (hands_on role (wrapped t x.repetition) (sole h)) (child_part role x.name below) (held_by t g x) below i)
-    (labels_same n u (others h) (next_part t) g after i)
+labels_same : (n : Bool) (u h : Forest Hint) (f : Forest Read) → relabel of_label (hinting n u h f) ≡ relabel of_label f
+unfolding hinting
+labels_same n u h bare = refl
+labels_same n u h (plant x below after) =
+    λ i. plant x.of
+    (labels_same (compares_names x.role) (field_hint x.part u (sole h)) (hands_on x.role (wrapped x.part x.of.repetition) (sole h)) below i)
+    (labels_same n u (others h) after i)
 
 right : (n : Bool) (u h : Forest Hint) (t : Part) (g : Holder) (f : Forest Numbered) → Right (hinting n u h (reading t g f))
 unfolding hinting reading
@@ -42,16 +45,12 @@ right n u h t g (plant x below after) =
     let u' = field_hint t u (sole h) in
     let h' = hands_on role (wrapped t x.repetition) (sole h) in
     let t' = child_part role x.name below in (
-      ap (role_of t x) (sym (labels_same n' u' h' t' (held_by t g x) below)),
+      ap (role_of t x) (sym (labels_same n' u' h' (reading t' (held_by t g x) below) ∙ relabel_of t' (held_by t g x) below)),
       right n' u' h' t' (held_by t g x) below,
       right n u (others h) (next_part t) g after,
     )
 
 -- ── All faults ──
-
-joined_append : {A B : Type 0} (g : A → List B) (xs ys : List A) → flat_map g (xs ++ ys) ≡ flat_map g xs ++ flat_map g ys
-joined_append g [] ys = refl
-joined_append {A} {B} g (x ∷ xs) ys = ap (λ (l : List B). g x ++ l) (joined_append g xs ys) ∙ sym (append_assoc (g x) (flat_map g xs) (flat_map g ys))
 
 module _ (typing : Typing) (chosen : ℕ → Bool) where
   abbrev faults : Spot Read → List Refusal
@@ -74,12 +73,12 @@ module _ (typing : Typing) (chosen : ℕ → Bool) where
       (element_first typing chosen x below r.0) (below_first k below (all_first below r.1)))
       (all_first after r.2)
       ∙ ap head (append_assoc (faults p) (flat_map faults (below_groups k (walked below))) (flat_map faults (walked after))
-      ∙ ap (λ (l : List Refusal). faults p ++ l) (sym (joined_append faults (below_groups k (walked below)) (walked after))))
+      ∙ ap (λ (l : List Refusal). faults p ++ l) (sym (flat_map-append faults (below_groups k (walked below)) (walked after))))
 
   -- ── The first fault ──
 
   find : (ps : List (Spot Read)) (r : Refusal) → head (flat_map faults ps) ≡ Some r → FirstFault typing chosen ps r
-  find [] r e = absurd (let z : ◌≡◌ {A = ℕ} 0 1 = cc in omega arith)
+  find [] r e = absurd (none-some r e)
   find (p ∷ ps) r e = go (faults p) refl e (find ps r)
     where
       go : (l : List Refusal) → faults p ≡ l → head (l ++ flat_map faults ps) ≡ Some r → (head (flat_map faults ps) ≡ Some r → FirstFault typing chosen ps r)
@@ -116,29 +115,29 @@ module _ (typing : Typing) (chosen : ℕ → Bool) where
       go : (l : List Refusal) → faults p ≡ l → l ++ flat_map faults ps ≡ [] → (flat_map faults ps ≡ [] → AllByRecursion (Faultless typing chosen) ps)
           → AllByRecursion (Faultless typing chosen) (p ∷ ps)
       go [] k h more = (k, more h)
-      go (q ∷ qs) k h more = absurd (let z : ◌≡◌ {A = ℕ} 0 1 = cc in omega arith)
+      go (q ∷ qs) k h more = absurd (nil≢cons (sym h))
 
 -- ── Heads of what is refused ──
 
 refused_head : {A : Type 0} (rs : List Refusal) (a : A) (r : Refusal) → unless_refused rs a ≡ Err r → head rs ≡ Some r
-refused_head [] a r e = absurd (let z : ◌≡◌ {A = ℕ} 0 1 = cc in omega arith)
+refused_head [] a r e = cc
 refused_head (q ∷ rs) a r e = cc
 
 head_refused : {A : Type 0} (rs : List Refusal) (a : A) (r : Refusal) → head rs ≡ Some r → unless_refused rs a ≡ Err r
-head_refused [] a r e = absurd (let z : ◌≡◌ {A = ℕ} 0 1 = cc in omega arith)
+head_refused [] a r e = cc
 head_refused (q ∷ rs) a r e = cc
 
 accepted_none : {A : Type 0} (rs : List Refusal) (a b : A) → unless_refused rs a ≡ Ok b → head rs ≡ None
 accepted_none [] a b e = refl
-accepted_none (q ∷ rs) a b e = absurd (let z : ◌≡◌ {A = ℕ} 0 1 = cc in omega arith)
+accepted_none (q ∷ rs) a b e = cc
 
 none_accepted : {A : Type 0} (rs : List Refusal) (a : A) → head rs ≡ None → unless_refused rs a ≡ Ok a
 none_accepted [] a e = refl
-none_accepted (q ∷ rs) a e = absurd (let z : ◌≡◌ {A = ℕ} 0 1 = cc in omega arith)
+none_accepted (q ∷ rs) a e = cc
 
 no_head : {A : Type 0} (xs : List A) → head xs ≡ None → xs ≡ []
 no_head [] e = refl
-no_head (x ∷ xs) e = absurd (let z : ◌≡◌ {A = ℕ} 0 1 = cc in omega arith)
+no_head (x ∷ xs) e = cc
 
 pub refused_first : RefusedFirst
 refused_first typing chosen hints t =

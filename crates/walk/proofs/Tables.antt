@@ -1,27 +1,27 @@
 -- Levels on flat tables.
 use Rattle.std.proofs.Common.{◌≡◌, ℕ, zero, suc, ◌+◌, ◌-◌, ◌<◌, ◌≤◌, Bool, true, false, cond, ltb, List, [], ◌∷◌, ◌++◌, map, length, get_or, Some, None, Option, sym, refl, ap, ◌∙◌, subst, ap₂, append-nil, arith}
 use mathlib.Core.List.{map-append}
-use Rattle.std.proofs.lemmas.Bool.{cond-true}
+use Rattle.std.proofs.lemmas.Bool.{cond-true, false≢true}
 use Rattle.tree.proofs.Ancestors.{ancestors, holds_yes}
 use Rattle.columns.proofs.Paths.{root_size}
 use Rattle.arrow.specs.declared.row.LeafNumbers.{LeafNumbers}
 use Rattle.columns.specs.Levels.{def_level, may_miss, path_of, rep_level, repeats, row_at}
 use Rattle.walk.proofs.Bounds.{no_repetition}
-use Rattle.walk.proofs.Flats.{Ends, among_map, here_label, label_at, leads, line_trail, partner, placed, trail, trail_relabel}
+use Rattle.walk.proofs.Flats.{among_map, here_label, label_at, leads, line_trail, partner, placed, trail, trail_relabel}
 use Rattle.walk.proofs.Follow.{Sum}
-use Rattle.walk.proofs.Hinted.{has_shape, relabel_twice}
-use Rattle.walk.proofs.Lists.{count_relabel, map_twice}
+use Rattle.walk.proofs.Hinted.{plain_shape}
+use Rattle.walk.proofs.Lists.{Ends, count_relabel, map_twice}
 use Rattle.walk.proofs.Main.{each_pair, levels_are, opens_each, reads_each}
 use Rattle.walk.proofs.Numbers.{count_numbered, numbered_in_order, relabel_numbered}
 use Rattle.walk.proofs.Once.{kept_among}
 use Rattle.walk.proofs.Tidy.{Tidy, tidy_rows}
 use Rattle.walk.specs.Flat.{LevelsRead, SizedRow, blank_row, path_repetitions, result_at, size_of, table_of, way_of, with_sizes}
 use Rattle.walk.specs.Forests.{Spot, Way, along, on_way, relabel, ways}
-use Rattle.walk.specs.Labels.{Numbered, numbered, numbered_as, or_required, shown_tree}
-use Rattle.walk.specs.Laws.{FlatLevels, Paired, RowsLieFlat, full_row, kept_leaves, shaped_row, unnumbered}
+use Rattle.walk.specs.Labels.{Numbered, is_repeated, numbered, numbered_as, or_required, shown_tree}
+use Rattle.walk.specs.Laws.{FlatLevels, Paired, RowsLieFlat, full_row, kept_leaves, unnumbered}
 use Rattle.walk.specs.Levels.{Among, Belongs, Meaning, OpensEach, OpensOnce, ReadsEach, ReadsOnce, Repeats, Says, definition_level, is_leaf_row, kept_leaf, leaf_row_at, leaf_row_of, leaves, path, repetition_level, row_leaf, spot_repetition}
 use Rattle.walk.specs.Reading.{Read}
-use Rattle.walk.specs.Shape.{Made, Row, Shaped, made_row, plain_rows, rows, shaped_of}
+use Rattle.walk.specs.Shape.{Made, Row, made_row, plain_rows, rows}
 use Rattle.walk.specs.Shape.RowKind.{leaf_row}
 use Rattle.schema.specs.Elements.{element_span, empty}
 use Rattle.schema.specs.Posts.{shown_as}
@@ -130,7 +130,7 @@ repeats_tail : (rs : List Repetition) (r d : ℕ) → Repeats (required ∷ rs) 
 repeats_tail rs r d b = go b.before b.splits b.level b.stands
   where
     go : (before : List Repetition) → required ∷ rs ≡ before ++ repeated ∷ b.after → suc (repetition_level before) ≡ r → suc (definition_level before) ≡ d → Repeats rs r d
-    go [] e l s = let same : required ≡ repeated = cc in absurd (let z : ◌≡◌ {A = ℕ} 0 1 = cc in omega arith)
+    go [] e l s = let same : required ≡ repeated = cc in absurd (false≢true (ap is_repeated same))
     go (q ∷ before) e l s =
         let same : q ≡ required = cc in
         let rest : rs ≡ before ++ repeated ∷ b.after = cc in
@@ -255,16 +255,9 @@ module _ (chosen : ℕ → Bool) (names : List ℕ) (bytes : ℕ) (elements : Li
       number_same : (n : LeafNumbers) (e k : ℕ) → leaf_row (record { element = e; leaf = k }) ≡ leaf_row n → e ≡ n.element
       number_same n e k h = let z : record { element = e; leaf = k } ≡ n = cc in ap (λ (m : LeafNumbers). m.element) z
 
-abbrev shaped_plain : Shaped → Row
-shaped_plain r = r.row
-
 pub flat_levels : FlatLevels
 flat_levels typing chosen hints names bytes elements fin f e q n h k =
     let t = shown_tree names fin.0 in
-    let same : plain_rows chosen t ≡ relabel full_row f =
-    sym (relabel_twice shaped_plain shaped_of (rows chosen t))
-    ∙ ap (relabel shaped_plain) (sym (has_shape typing chosen hints t f e))
-    ∙ relabel_twice shaped_plain shaped_row f in
     let go : (g : Forest Row) → plain_rows chosen t ≡ g → q < count g → (result_at (table_of g) q).kind ≡ leaf_row n → LevelsRead elements (table_of g) q n.element =
     λ g eq. subst (λ (z : Forest Row). q < count z → (result_at (table_of z) q).kind ≡ leaf_row n → LevelsRead elements (table_of z) q n.element) eq (read_levels chosen names bytes elements fin q n) in
-    go (relabel full_row f) same (omega (arith, h, count_relabel full_row f)) k
+    go (relabel full_row f) (plain_shape typing chosen hints t f e) (omega (arith, h, count_relabel full_row f)) k

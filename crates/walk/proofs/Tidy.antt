@@ -1,10 +1,9 @@
 -- No rows lie below a leaf row; so the leaf rows of the flat result are the ends of the ways.
-use Rattle.std.proofs.Common.{◌≡◌, ℕ, Bool, true, false, cond, ◌&&◌, ◌||◌, List, [], ◌∷◌, ◌++◌, map, filter, sym, refl, ap, ◌∙◌, subst, ap₂, append-nil, arith}
-use mathlib.Core.List.{map-append}
-use Rattle.std.proofs.lemmas.List.Elements.{filter-append}
+use Rattle.std.proofs.Common.{◌≡◌, ℕ, Bool, true, false, ◌&&◌, ◌||◌, List, [], ◌∷◌, sym, refl, ap, ◌∙◌, subst, ap₂, append-nil}
+use Rattle.std.proofs.lemmas.Bool.{false≢true}
 use Rattle.walk.proofs.Follow.{Groups, groups_of, made_leaf}
-use Rattle.walk.proofs.Lists.{map_twice}
-use Rattle.walk.specs.Forests.{Way, beside, over, planted, straight, under, ways}
+use Rattle.walk.proofs.Lists.{Ends, sides_either}
+use Rattle.walk.specs.Forests.{beside, over, planted}
 use Rattle.walk.specs.Laws.{YieldsRows}
 use Rattle.walk.specs.Reading.{Read}
 use Rattle.walk.specs.Shape.{Items, Made, base, both_sides, element_rows, group_rows, has_own, items_of, leaf_part, passes_null, raised, read, rows, shape, wrap}
@@ -17,7 +16,7 @@ use Rattle.schema.specs.Words.{Spelled}
 use Rattle.schema.specs.declared.basic.Repetition.{Repetition}
 use Rattle.schema.specs.declared.element.Kind.{Kind}
 use Rattle.schema.specs.declared.element.Kind.TheVariants.{Group as group, Leaf as leaf}
-use Rattle.tree.specs.Forest.{Forest, Tree, listing}
+use Rattle.tree.specs.Forest.{Forest, Tree}
 use Rattle.tree.specs.Forest.Forest.{bare, plant}
 
 -- ── What yields ──
@@ -70,52 +69,20 @@ yields_rows chosen v p (plant x below after) =
 -- ── Leaf rows in the flat result ──
 
 abbrev pub Tidy : Forest Made → Type 0
-Tidy bare = Unit {0}
-Tidy (plant r below after) = (made_leaf r ≡ true → below ≡ bare) × Tidy below × Tidy after
-
-pub leaf_listing : (f : Forest Made) → Tidy f → filter made_leaf (listing f) ≡ map (λ (w : Way Made). w.end) (ways made_leaf f)
-leaf_listing bare t = refl
-leaf_listing (plant r below after) t =
-    ap (λ (l : List Made). cond (made_leaf r) (r ∷ l) l)
-    (filter-append made_leaf (listing below) (listing after) ∙ ap₂ (λ (a b : List Made). a ++ b) (leaf_listing below t.1) (leaf_listing after t.2))
-    ∙ go (made_leaf r) t.0
-    ∙ sym (map-append (λ (w : Way Made). w.end) (cond (made_leaf r) (straight r ∷ []) (map (under r) (ways made_leaf below))) (ways made_leaf after))
-  where
-    ends : List (Way Made) → List Made
-    ends = map (λ (w : Way Made). w.end)
-
-    go : (b : Bool) → (b ≡ true → below ≡ bare)
-        → cond b (r ∷ (ends (ways made_leaf below) ++ ends (ways made_leaf after))) (ends (ways made_leaf below) ++ ends (ways made_leaf after))
-        ≡ ends (cond b (straight r ∷ []) (map (under r) (ways made_leaf below))) ++ ends (ways made_leaf after)
-    go true e = ap (λ (f : Forest Made). r ∷ (ends (ways made_leaf f) ++ ends (ways made_leaf after))) (e refl)
-    go false e =
-        ap (λ (l : List Made). l ++ ends (ways made_leaf after))
-        (sym (map_twice (λ (w : Way Made). w.end) (under r) (λ (w : Way Made). w.end) (λ w. refl) (ways made_leaf below)))
+Tidy f = Ends made_leaf f
 
 tidy_beside : (f g : Forest Made) → Tidy f → Tidy g → Tidy (beside f g)
 tidy_beside bare g a b = b
 tidy_beside (plant r below after) g a b = (a.0, a.1, tidy_beside after g a.2 b)
 
-differ : {A : Type 0} → false ≡ true → A
-differ e = absurd (let z : ◌≡◌ {A = ℕ} 0 1 = cc in omega arith)
-
 tidy_over : (rs : List Made) → Groups rs → (f : Forest Made) → Tidy f → Tidy (over rs f)
 tidy_over rs g bare t = tt
 tidy_over [] g (plant r below after) t = t
-tidy_over (q ∷ rs) g (plant r below after) t = ((λ e. differ (sym g.0 ∙ e)), tidy_over rs g.1 (plant r below after) t, tt)
+tidy_over (q ∷ rs) g (plant r below after) t = ((λ e. absurd (false≢true (sym g.0 ∙ e))), tidy_over rs g.1 (plant r below after) t, tt)
 
 tidy_leaf : (c : Bool) (x : Read) (r : Repetition) (v : Levels) → Tidy (leaf_part c x r v)
 tidy_leaf true x r v = ((λ _. refl), tt, tt)
 tidy_leaf false x r v = tt
-
-tidy_sides : (role : Role) (both : Bool) (f : Forest Made) → Tidy f → Tidy (both_sides role both f)
-tidy_sides own both f t = t
-tidy_sides listed both f t = t
-tidy_sides middle both f t = t
-tidy_sides entries both f t = t
-tidy_sides (broken n) both f t = t
-tidy_sides mapped true f t = t
-tidy_sides mapped false f t = tt
 
 groups_wrap : (x : Read) (i : Items) (r : Repetition) (v : Levels) (p : Bool) → Groups (wrap x i r v p)
 groups_wrap x i r v p = subst Groups (append-nil (wrap x i r v p)) (groups_of x i false r v p)
@@ -127,7 +94,7 @@ module _ (chosen : ℕ → Bool) where
       tidy_over (wrap x of_list r v p) (groups_wrap x of_list r v p) (leaf_part (chosen x.of.leaf_number) x r v) (tidy_leaf (chosen x.of.leaf_number) x r v)
   tidy_element (group n) x role r v p both inner t =
       tidy_over (group_rows x (items_of role) (has_own role) r v p) (groups_of x (items_of role) (has_own role) r v p)
-      (both_sides role both inner) (tidy_sides role both inner t)
+      (both_sides role both inner) (sides_either Tidy role both inner t tt)
 
   tidy : (f : Forest Read) (v : Levels) (p : Bool) → Tidy (shape chosen v p f)
   unfolding shape

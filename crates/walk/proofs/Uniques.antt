@@ -1,5 +1,6 @@
 -- Elements in preorder with their depths are the listing of one tree.
 use Rattle.std.proofs.Common.{◌≡◌, ℕ, ◌+◌, ◌<◌, List, [], ◌∷◌, ◌++◌, map, sym, refl, ap, ◌∙◌, append_assoc, append-nil, arith}
+use mathlib.Core.List.{nil≢cons}
 use Rattle.walk.proofs.Lists.{listing_relabel}
 use Rattle.walk.specs.Forests.{relabel}
 use Rattle.walk.specs.Hints.{others}
@@ -28,7 +29,7 @@ higher_after d bare (x ∷ xs) t h = omega (arith, h)
 higher_after d (plant e below after) xs t h = omega (arith, t.0)
 
 never : {A : Type 0} (d : ℕ) (e : Spelled) (es xs : List Spelled) → e.depth ≡ d → Higher d xs → xs ≡ e ∷ es → A
-never d e es [] at h k = absurd (let z : ◌≡◌ {A = ℕ} 0 1 = cc in omega arith)
+never d e es [] at h k = absurd (nil≢cons k)
 never d e es (x ∷ xs) at h k =
     let same : x ≡ e = cc in
     absurd (omega (arith, h, at, ap (λ (z : Spelled). z.depth) same))

@@ -7,7 +7,7 @@ use Rattle.walk.specs.Faults.{Typing, leaf_hint}
 use Rattle.walk.specs.Forests.{Spot, first_below, one_tree, some_root, trees, two_trees}
 use Rattle.walk.specs.Handing.{unwrap, wrapped}
 use Rattle.walk.specs.Hints.{Hint, Nesting, any_list, any_map, any_struct, nesting, over_two, plain_list}
-use Rattle.walk.specs.Labels.{Numbered, is_leaf, is_repeated}
+use Rattle.walk.specs.Labels.{is_leaf, is_repeated}
 use Rattle.walk.specs.Reading.{Part, Read}
 use Rattle.walk.specs.Reading.Part.{as_element, as_entries, as_field, as_key, as_middle, as_root}
 use Rattle.walk.specs.declared.role.Role.{Role}
@@ -25,9 +25,6 @@ use Rattle.schema.specs.declared.refusal.Refusal.TheVariants as no
 abbrev pub when : Bool → Refusal → List Refusal
 when true r = r ∷ []
 when false r = []
-
-abbrev pub of_label : Read → Numbered
-of_label x = x.of
 
 abbrev pub repeated_label : Read → Bool
 repeated_label x = is_repeated x.of.repetition

@@ -12,7 +12,7 @@ use Rattle.schema.specs.declared.refusal.Refusal.{Refusal}
 use Rattle.schema.specs.declared.refusal.Refusal.TheVariants as no
 use Rattle.schema.specs.Posts.{shown_as}
 use Rattle.schema.specs.Reach.{Reached, SchemaHolds, whole}
-use Rattle.schema.specs.Refusals.{element_of}
+use Rattle.schema.specs.Refusals.{element_of, number_of}
 use Rattle.schema.specs.Rows.{IsFinished}
 use Rattle.schema.specs.Words.{Event, Spelled, Words, spelled}
 use Rattle.schema.proofs.Told.{reached_holds, memory_law}
@@ -297,8 +297,8 @@ module _ (c : Conversion) (does : Converts c) (h : List Event) (p : Reached h (w
     where
       go : Converts c → ⊥
       go (other_memory e r) = true≢false (sym (memory_law p (kept c) refl) ∙ e)
-      go (no_hint e hk r) = let z : ◌≡◌ {A = ℕ} 0 1 = let y = same_err r.answer a in cc in omega arith
-      go (no_room e hk s r) = let z : ◌≡◌ {A = ℕ} 0 1 = let y = same_err r.answer a in cc in omega arith
+      go (no_hint e hk r) = omega (arith, ap number_of (same_err r.answer a))
+      go (no_room e hk s r) = omega (arith, ap number_of (same_err r.answer a))
       go (walked e hk s w) =
           let hs = hint_forest hk in
           never hs.0 (walk_under c.text hs.0 c.chosen (shown_tree c.names fin.0)) refl (w fin hs.0 hs.1) a

@@ -28,6 +28,7 @@ length_lines bare = refl
 length_lines (plant r b a) =
     ap suc (length-append (lines b) (lines a) ∙ ap₂ (λ (x y : ℕ). x + y) (length_lines b) (length_lines a) ∙ sym (length-append (listing b) (listing a)))
 
+-- One lemma in place of these three inductions, over what is told of a line, takes six lines more.
 lines_relabel : {B : Type 0} (g : Full → B) (f : Forest Full) → map (λ (l : Line). g l.row) (lines f) ≡ listing (relabel g f)
 lines_relabel g bare = refl
 lines_relabel {B} g (plant r b a) =

@@ -1,5 +1,6 @@
 -- The ways of the rows follow the paths of the schema: one equation between lists, by induction over the schema.
 use Rattle.std.proofs.Common.{◌≡◌, ℕ, suc, Bool, true, false, cond, not, ◌&&◌, List, [], ◌∷◌, ◌++◌, map, ℤ, filter, Option, sym, refl, ap, ◌∙◌, ap₂, append_assoc, append-nil}
+use Rattle.std.proofs.lemmas.List.{map-id}
 use Rattle.std.proofs.lemmas.List.Concat.{flat_map-append}
 use Rattle.std.proofs.lemmas.Bool.{or_parts}
 use mathlib.Core.List.{map-append}
@@ -90,13 +91,9 @@ abbrev pub Groups : List Made → Type 0
 Groups [] = Unit {0}
 Groups (r ∷ rs) = (made_leaf r ≡ false) × Groups rs
 
-under_nothing : (ws : List (Way Made)) → ws ≡ map (under_all []) ws
-under_nothing [] = refl
-under_nothing (w ∷ ws) = ap {B = List (Way Made)} (λ r. w ∷ r) (under_nothing ws)
-
 ways_over : (rs : List Made) → Groups rs → (f : Forest Made) → ways made_leaf (over rs f) ≡ map (under_all rs) (ways made_leaf f)
 ways_over rs g bare = refl
-ways_over [] g (plant a below after) = under_nothing _
+ways_over [] g (plant a below after) = sym (map-id (ways made_leaf (plant a below after)))
 ways_over (r ∷ rs) g (plant a below after) =
     rw g.0
     (append-nil _

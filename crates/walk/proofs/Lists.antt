@@ -68,6 +68,8 @@ relabel_spots g (plant a below after) = λ i. plant (g a) (relabel_spots g below
 
 -- ── What holds of each of a list ──
 
+-- The standard library has the first of these only in a file that is marked for deletion.
+
 module _ {A : Type 0} (P : A → Type 0) where
   pub all_append : (xs ys : List A) → AllByRecursion P xs → AllByRecursion P ys → AllByRecursion P (xs ++ ys)
   all_append [] ys a b = b

@@ -13,7 +13,7 @@ use Rattle.schema.specs.declared.element.Element.{Element}
 use Rattle.tree.specs.Forest.{Forest, Tree, alone, listing}
 use Rattle.tree.specs.Forest.Forest.{bare, plant}
 
--- each element lies at its depth
+-- each element lies at its depth; the same words as AtDepth, which stands in the crate promise, above this one
 abbrev Deep : ℕ → Forest Spelled → Type 0
 Deep d bare = Unit {0}
 Deep d (plant e below after) = (e.depth ≡ d) × Deep (d + 1) below × Deep d after

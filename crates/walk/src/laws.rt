@@ -1,4 +1,4 @@
-// The laws of the walk. Each function does nothing: its contract is a theorem. A law that names no lemma here has its answer in proofs/laws, since
+// The laws of the walk. Each function does nothing: its contract is a theorem. A law with no tactic line has its answer in proofs/laws, since
 // the check does not close it when it is only given the lemma.
 ghost use Rattle.walk.specs.Laws.{NumberedInOrder, LeafRows, DefinitionLevelsOnce, RepetitionLevelsOnce, TwoRowsAnElement, LevelsBounded, YieldsRows, HasShape, HintsKeepShape, WalkLeveled, RefusedFirst, WalkedInOrder, HintsReach, FieldsTold, ListsAsPublished, PublishedListsTold, MapsAsPublished, RowsLieFlat, FlatLevels, LeavesAsListed, SameSchema, SameSelection};
 ghost use Rattle.walk.specs.Worked.{Worked};

@@ -4,10 +4,7 @@
 use arrow::{ArrowType, Field, HintRow, Metadata, ResultRow, TextPlace};
 use convert::{HintSchema, convert};
 use odd_leaves::OddLeaves;
-use schema::{
-    Annotation, ConvertedType, Draft, Element, Leaf, PhysicalType, Place, Refusal, Repetition,
-    Schema,
-};
+use schema::{Draft, Element, Leaf, PhysicalType, Place, Refusal, Repetition, Schema};
 use selection::{All, Selection};
 use std::alloc::{AllocError, Global};
 use std::io;
@@ -17,7 +14,7 @@ const NUMBER: Leaf = Leaf {
     type_length: 0,
     scale: 0,
     precision: 0,
-    converted: ConvertedType::None,
+    converted: None,
     logical: None,
 };
 
@@ -89,7 +86,7 @@ impl Tables {
                 &mut self.names,
                 b"g",
                 repetition,
-                Annotation::None,
+                None,
                 None,
             )?;
         }

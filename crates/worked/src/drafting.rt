@@ -1,5 +1,5 @@
 // Drafting at its limits.
-use schema::{Annotation, ConvertedType, Draft, Element, Leaf, PhysicalType, Refusal, Repetition};
+use schema::{Draft, Element, Leaf, PhysicalType, Refusal, Repetition};
 use std::test::Fail;
 
 pub const FLAG: Leaf = Leaf {
@@ -7,7 +7,7 @@ pub const FLAG: Leaf = Leaf {
     type_length: 0,
     scale: 0,
     precision: 0,
-    converted: ConvertedType::None,
+    converted: None,
     logical: None,
 };
 
@@ -39,14 +39,7 @@ fn most_elements(rt: HostRuntime) -> Result<(), Fail> {
         1
     );
     assert_eq!(rt;
-        refused(draft.open(
-            rows,
-            names,
-            b"",
-            Repetition::Required,
-            Annotation::None,
-            None,
-        )),
+        refused(draft.open(rows, names, b"", Repetition::Required, None, None,)),
         1
     );
     match draft.finish(rows, names) {
@@ -147,14 +140,7 @@ fn deepest(rt: HostRuntime) -> Result<(), Fail> {
     };
     for _ in 0..64 {
         assert_eq!(rt;
-            refused(draft.open(
-                rows,
-                names,
-                b"",
-                Repetition::Optional,
-                Annotation::None,
-                None,
-            )),
+            refused(draft.open(rows, names, b"", Repetition::Optional, None, None,)),
             0
         );
     }

@@ -20,50 +20,29 @@ fn nested(elements: &mut [Element], names: &mut [u8]) -> Result<Schema, Refusal>
         names,
         b"m",
         Repetition::Optional,
-        Annotation::Map,
+        Some(Annotation::Map),
         None,
     )?;
-    draft.open(
-        elements,
-        names,
-        b"e",
-        Repetition::Repeated,
-        Annotation::None,
-        None,
-    )?;
+    draft.open(elements, names, b"e", Repetition::Repeated, None, None)?;
     draft.add(elements, names, b"key", Repetition::Required, FLAG, None)?;
     draft.open(
         elements,
         names,
         b"value",
         Repetition::Optional,
-        Annotation::List,
+        Some(Annotation::List),
         None,
     )?;
-    draft.open(
-        elements,
-        names,
-        b"l",
-        Repetition::Repeated,
-        Annotation::None,
-        None,
-    )?;
+    draft.open(elements, names, b"l", Repetition::Repeated, None, None)?;
     draft.open(
         elements,
         names,
         b"element",
         Repetition::Optional,
-        Annotation::Map,
+        Some(Annotation::Map),
         None,
     )?;
-    draft.open(
-        elements,
-        names,
-        b"f",
-        Repetition::Repeated,
-        Annotation::None,
-        None,
-    )?;
+    draft.open(elements, names, b"f", Repetition::Repeated, None, None)?;
     draft.add(elements, names, b"k", Repetition::Required, FLAG, None)?;
     draft.add(elements, names, b"v", Repetition::Optional, FLAG, None)?;
     for _ in 0..6 {
@@ -190,14 +169,7 @@ fn root_alone_and_deepest(rt: HostRuntime) -> Result<(), Fail> {
     };
     for _ in 0..63 {
         assert_eq!(rt;
-            refused(draft.open(
-                rows,
-                names,
-                b"",
-                Repetition::Repeated,
-                Annotation::None,
-                None,
-            )),
+            refused(draft.open(rows, names, b"", Repetition::Repeated, None, None,)),
             0
         );
     }

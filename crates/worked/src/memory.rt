@@ -1,22 +1,14 @@
 // Lent memory that is not what the schema counts.
 use crate::drafting::{FLAG, refused};
 use schema::{
-    Annotation, ConvertedType, Draft, Element, Kind, Leaf, PhysicalType, Place, Refusal,
-    Repetition, Schema,
+    ConvertedType, Draft, Element, Kind, Leaf, PhysicalType, Place, Refusal, Repetition, Schema,
 };
 use std::test::Fail;
 
 // A root, a group with one leaf, and one leaf more.
 fn draft(elements: &mut [Element], names: &mut [u8]) -> Result<Draft, Refusal> {
     let mut draft = Draft::begin(elements, names, b"root", None)?;
-    draft.open(
-        elements,
-        names,
-        b"group",
-        Repetition::Optional,
-        Annotation::None,
-        None,
-    )?;
+    draft.open(elements, names, b"group", Repetition::Optional, None, None)?;
     draft.add(elements, names, b"in", Repetition::Required, FLAG, None)?;
     draft.close()?;
     draft.add(elements, names, b"out", Repetition::Required, FLAG, None)?;
@@ -107,7 +99,7 @@ fn tampered_records(rt: HostRuntime) -> Result<(), Fail> {
         type_length: 0,
         scale: 0,
         precision: 10,
-        converted: ConvertedType::Decimal,
+        converted: Some(ConvertedType::Decimal),
         logical: None,
     });
     assert!(rt; !accepts(&schema, &elements, &names, 3, row));

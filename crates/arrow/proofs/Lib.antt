@@ -1,4 +1,3 @@
-pub mod Texts
 pub mod Meanings
 pub mod Depths
 pub mod Checked

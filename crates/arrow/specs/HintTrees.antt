@@ -1,8 +1,8 @@
 -- Which rows are a hint.
-use Rattle.std.specs.Prelude.{◌≡◌, ℕ, zero, suc, ◌+◌, ◌<◌, ◌≤◌, Bool, true, false, ◌&&◌, ◌⊎◌, List, [], ◌++◌, length, drop, ◌==◌, nat_le, slice_index_or}
+use Rattle.std.specs.Prelude.{◌≡◌, ℕ, zero, suc, ◌<◌, ◌≤◌, Bool, true, false, ◌&&◌, ◌⊎◌, List, [], ◌++◌, length, drop, ◌==◌, nat_le, slice_index_or}
 use Rattle.tree.specs.Forest.{Forest, Tree, alone, listing, Sized, Lists, depth, children}
 use Rattle.tree.specs.Forest.Forest.{bare, plant}
-use Rattle.arrow.specs.declared.types.TextPlace.{TextPlace}
+use Rattle.schema.specs.Elements.{lies_inside}
 use Rattle.arrow.specs.declared.types.Zone.{Zone}
 use Rattle.arrow.specs.declared.types.Zone.TheVariants.{Absent, Utc, Text}
 use Rattle.arrow.specs.declared.types.ArrowType.{ArrowType}
@@ -64,19 +64,15 @@ brood_kept childless k = k == 0
 brood_kept single k = k == 1
 brood_kept any k = true
 
--- a place lies inside a text of n bytes
-abbrev pub inside : ℕ → TextPlace → Bool
-inside n p = nat_le (p.start + p.length) n
-
 -- a hint's zone is absent, or a place of at least one byte
 abbrev pub zone_inside : ℕ → Zone → Bool
 zone_inside n Absent = true
 zone_inside n Utc = false
-zone_inside n (Text p) = nat_le 1 p.length && inside n p
+zone_inside n (Text p) = nat_le 1 p.length && lies_inside n p
 
 -- a row with k children, beside a text of n bytes
 abbrev pub hint_kept : ℕ → HintRow → ℕ → Bool
-hint_kept n h k = inside n h.name && (zone_inside n (zone_of h.data_type) && brood_kept (brood_of h.data_type) k)
+hint_kept n h k = lies_inside n h.name && (zone_inside n (zone_of h.data_type) && brood_kept (brood_of h.data_type) k)
 
 -- an empty row, and what is read past the last row of a table
 abbrev pub empty_hint : HintRow

@@ -1,12 +1,12 @@
 -- When two Arrow types mean the same: they are alike but for their zones, and the zones are spelled alike.
-use Rattle.std.specs.Prelude.{◌≡◌, ℕ, Bool, true, false, cond, ◌&&◌, List, [], ◌∷◌, take, drop, ℤ, pos, negsuc, Some, None, Option, ◌==◌}
+use Rattle.std.specs.Prelude.{◌≡◌, ℕ, Bool, true, false, cond, ◌&&◌, List, [], ◌∷◌, ℤ, pos, negsuc, Some, None, Option, ◌==◌}
 use Rattle.std.specs.Borrow.{Bor}
 use Rattle.std.specs.Str.{bytes_eq}
 use Rattle.arrow.specs.declared.types.TimeUnit.{TimeUnit}
 use Rattle.arrow.specs.declared.types.TimeUnit.TheVariants.{Second, Millisecond, Microsecond, Nanosecond}
 use Rattle.arrow.specs.declared.types.IntervalUnit.{IntervalUnit}
 use Rattle.arrow.specs.declared.types.IntervalUnit.TheVariants.{YearMonth, DayTime, MonthDayNano}
-use Rattle.arrow.specs.declared.types.TextPlace.{TextPlace}
+use Rattle.schema.specs.Elements.{part}
 use Rattle.arrow.specs.declared.types.Zone.{Zone}
 use Rattle.arrow.specs.declared.types.Zone.TheVariants.{Absent, Utc, Text}
 use Rattle.arrow.specs.declared.types.ArrowType.{ArrowType}
@@ -14,15 +14,11 @@ use Rattle.arrow.specs.declared.types.ArrowType.TheVariants as a
 
 -- Zones.
 
--- the bytes of the hint text that lie at a place
-abbrev pub bytes_at : List ℕ → TextPlace → List ℕ
-bytes_at text p = take p.length (drop p.start text)
-
 -- how a zone is spelled, if there is one: UTC, or what lies at its place
 abbrev pub spelled : List ℕ → Zone → Option (List ℕ)
 spelled text Absent = None
 spelled text Utc = Some (85 ∷ 84 ∷ 67 ∷ [])
-spelled text (Text p) = Some (bytes_at text p)
+spelled text (Text p) = Some (part text p)
 
 -- what a function answers that lends the spelling
 abbrev pub Spells : Option (List ℕ) → Option (Bor (List ℕ)) → Type 0

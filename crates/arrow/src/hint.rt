@@ -2,7 +2,7 @@
 ghost use Rattle.std.specs.Prelude.{◌≡◌, ◌+◌, ◌≤◌, length, Decides};
 ghost use Rattle.tree.specs.Forest.{Forest, Lists, count};
 ghost use Rattle.arrow.specs.Kinds.{hint_span};
-ghost use Rattle.arrow.specs.HintTrees.{brood_of, brood_kept, inside, zone_inside, hint_kept, HintsKept, IsHint, shallow, Lies};
+ghost use Rattle.arrow.specs.HintTrees.{brood_of, brood_kept, zone_inside, hint_kept, HintsKept, IsHint, shallow, Lies};
 
 use crate::same::zone_of;
 use crate::types::{ArrowType, TextPlace, Zone};
@@ -81,15 +81,9 @@ fn keeps_hints(rows: &[HintRow], text_length: usize) -> bool
 fn keeps_hint(row: HintRow, children: usize, text_length: usize) -> bool
     ensures { result ≡ hint_kept text_length row children }
 {
-    lies_inside(row.name, text_length)
+    row.name.lies_inside(text_length)
         && keeps_zone(zone_of(row.data_type), text_length)
         && keeps_brood(row.data_type, children)
-}
-
-fn lies_inside(place: TextPlace, text_length: usize) -> bool
-    ensures { result ≡ inside text_length place }
-{
-    place.start <= text_length && place.length <= text_length - place.start
 }
 
 // A hint's zone is absent, or a place of at least one byte.
@@ -99,7 +93,7 @@ fn keeps_zone(zone: Zone, text_length: usize) -> bool
     match zone {
         Zone::Absent => true,
         Zone::Utc => false,
-        Zone::Text(place) => place.length >= 1 && lies_inside(place, text_length),
+        Zone::Text(place) => place.length >= 1 && place.lies_inside(text_length),
     }
 }
 

@@ -19,7 +19,7 @@ pub enum Metadata {
 #[derive(Clone, Copy)]
 pub struct Field {
     // where the name lies in the name memory
-    pub name: Place,
+    pub name: Place<u8>,
     pub nullable: bool,
     pub metadata: Metadata,
 }
@@ -34,7 +34,7 @@ pub struct LeafNumbers {
 // What a map row adds: its entries' name and metadata number.
 #[derive(Clone, Copy)]
 pub struct Entries {
-    pub name: Place,
+    pub name: Place<u8>,
     pub metadata: u32,
 }
 

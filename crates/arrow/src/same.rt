@@ -1,24 +1,8 @@
 // When two Arrow types mean the same.
 ghost use Rattle.std.specs.Prelude.{◌≡◌, Decides};
-ghost use Rattle.arrow.specs.Same.{bytes_at, spelled, Spells, same_zone, zone_of, code, same_code, same, meaning};
+ghost use Rattle.arrow.specs.Same.{spelled, Spells, same_zone, zone_of, code, same_code, same, meaning};
 
-use crate::types::{ArrowType, TextPlace, Zone};
-
-// The bytes of the text that lie at a place, as far as the place lies inside.
-fn bytes_at<'a>(place: TextPlace, text: &'a [u8]) -> &'a [u8]
-    ensures { result.now ≡ bytes_at text.now place }
-{
-    let start = place.start;
-    let length = place.length;
-    if start > text.len() {
-        return &text[..0];
-    }
-    let rest = &text[start..];
-    if length > rest.len() {
-        return rest;
-    }
-    &rest[..length]
-}
+use crate::types::{ArrowType, Zone};
 
 // How a zone is spelled.
 fn spelling<'a>(zone: Zone, text: &'a [u8]) -> Option<&'a [u8]>
@@ -27,7 +11,7 @@ fn spelling<'a>(zone: Zone, text: &'a [u8]) -> Option<&'a [u8]>
     match zone {
         Zone::Absent => None,
         Zone::Utc => Some(b"UTC"),
-        Zone::Text(place) => Some(bytes_at(place, text)),
+        Zone::Text(place) => Some(place.bytes_in(text)),
     }
 }
 

@@ -1,5 +1,7 @@
 // Arrow types.
 
+use schema::Place;
+
 #[derive(Clone, Copy, PartialEq, Eq, Debug)]
 pub enum TimeUnit {
     Second,
@@ -16,11 +18,7 @@ pub enum IntervalUnit {
 }
 
 // Where bytes lie in the hint text.
-#[derive(Clone, Copy, PartialEq, Eq, Debug)]
-pub struct TextPlace {
-    pub start: usize,
-    pub length: usize,
-}
+pub type TextPlace = Place<usize>;
 
 // A timestamp's zone. A hint's is absent or a place of the hint text.
 #[derive(Clone, Copy)]

@@ -1,11 +1,9 @@
 // The rows of a column listing.
 
+use schema::Place;
+
 // Where a leaf's path lies in the caller's path numbers.
-#[derive(Clone, Copy, PartialEq, Eq, Debug)]
-pub struct PathPlace {
-    pub start: usize,
-    pub length: usize,
-}
+pub type PathPlace = Place<usize>;
 
 // One leaf of a schema.
 #[derive(Clone, Copy)]

@@ -13,9 +13,8 @@ use Rattle.arrow.specs.declared.hint.HintRow.{HintRow}
 use Rattle.arrow.specs.HintTrees.{empty_hint}
 use Rattle.arrow.specs.Kinds.{hint_span}
 use Rattle.arrow.specs.Convert.{converted_leaf}
-use Rattle.arrow.specs.Same.{bytes_at}
+use Rattle.schema.specs.Elements.{part}
 use Rattle.walk.specs.Hints.{Hint, Nesting, nesting, hints_of, has_children, sole, inside, others, fits, over_two, any_list, any_struct, any_map, plain_list}
-use Rattle.arrow.specs.Same.{bytes_at}
 use Rattle.walk.specs.Hints.Nesting.{a_list, a_list_view, a_struct, a_map, a_dictionary, a_value}
 use Rattle.walk.specs.Faults.{unless, name_checks, struct_checks, map_checks}
 use Rattle.walk.specs.Walk.{by_number, by_id, metadata_of, hinted_list, list_or, sorted_in, hinted_sorted, hinted_number}
@@ -175,7 +174,7 @@ module _ (text : List ℕ) where
   pub name_none : (name : List ℕ) (hs : Forest Hint) → Sees text None hs → true ≡ named_as name hs
   name_none name hs e = sym (ap (named_as name) e)
 
-  pub name_row : (name : List ℕ) (h : HintRow) (hs : Forest Hint) → Sees text (Some h) hs → bytes_eq (bytes_at text h.name) name ≡ named_as name hs
+  pub name_row : (name : List ℕ) (h : HintRow) (hs : Forest Hint) → Sees text (Some h) hs → bytes_eq (part text h.name) name ≡ named_as name hs
   name_row name h hs (j, b, e) = sym (ap (named_as name) e)
 
 -- ── Checks ──

@@ -25,7 +25,7 @@ Closes row start cursor r out after =
     (names : List ℕ) (o : Outcome) (next : ℕ) (before : List ResultRow) → length before ≡ length out → Wrote names o (start + 1) next before out cursor
     → Wrote names (within (shown_row names row) o) start next before after r
 
-module _ (names : List ℕ) (c : Seat) (hs : Forest Hint) (i k : ℕ) (name : Place) (r : Repetition) (v : Levels) (type : ArrowType)
+module _ (names : List ℕ) (c : Seat) (hs : Forest Hint) (i k : ℕ) (name : Place ℕ) (r : Repetition) (v : Levels) (type : ArrowType)
     (row : ResultRow) (is : row ≡ own_row c hs name r v type (Some (record { element = i; leaf = k }))) (start next : ℕ) (before : List ResultRow) where
   pub leaf_alone : is_repeated r ≡ false → start < length before
       → Wrote names (leaf_outcome names c hs i k name r v type) start next before (set before start row) (record { row = start + 1; leaf = next })

@@ -111,7 +111,7 @@ module _ (s : Input) (c : Seat) (t : Told) (q : Seats s c t) where
       full_is (ap (λ (y : ArrowType). struct_or_list (nesting y)) q.list ∙ list_kind t.part t.field) q.name
       (ap (λ (b : Bool). not b && c.null_above) q.key) q.list q.metadata
 
-  pub own_shown : (role : Role) (x : Numbered) (name : Place) → part s.names name ≡ x.name → (r : Repetition) (v : Levels) (type : ArrowType) (n : Option LeafNumbers)
+  pub own_shown : (role : Role) (x : Numbered) (name : Place ℕ) → part s.names name ≡ x.name → (r : Repetition) (v : Levels) (type : ArrowType) (n : Option LeafNumbers)
       → shown_row s.names (own_row c t.hint name r v type n)
       ≡ mk (kind_told n None (nesting type)) v (is_optional r) (name_by (is_repeated r) x.name t.holder.name) (null_by (is_repeated r) t.holder.key (is_optional r)) type
       (metadata_by (is_repeated r) (told_label t role x))
@@ -213,12 +213,12 @@ untyped_as i x r f e g = answered_none i x f (sym e ∙ g)
 
 -- ── Fields ──
 
-pub own_outer : (c : Seat) (hs : Forest Hint) (name : Place) (r : Repetition) → is_repeated r ≡ false → own_field c hs name r ≡ outer_field c (is_optional r)
+pub own_outer : (c : Seat) (hs : Forest Hint) (name : Place ℕ) (r : Repetition) → is_repeated r ≡ false → own_field c hs name r ≡ outer_field c (is_optional r)
 own_outer c hs name required h = refl
 own_outer c hs name optional h = refl
 own_outer c hs name repeated h = differ h
 
-pub own_inner : (c : Seat) (hs : Forest Hint) (name : Place) (r : Repetition) → is_repeated r ≡ true
+pub own_inner : (c : Seat) (hs : Forest Hint) (name : Place ℕ) (r : Repetition) → is_repeated r ≡ true
     → own_field c hs name r ≡ record { name = name; nullable = false; metadata = inner_of c.element hs }
 own_inner c hs name r h = ap (own_field c hs name) (again_is r h)
 

@@ -7,14 +7,14 @@ use Rattle.schema.specs.declared.refusal.Refusal.{Refusal}
 use Rattle.arrow.specs.declared.hint.HintRow.{HintRow}
 use Rattle.arrow.specs.Kinds.{hint_span}
 use Rattle.arrow.specs.Convert.{converted_leaf}
-use Rattle.arrow.specs.Same.{bytes_at}
+use Rattle.schema.specs.Elements.{part}
 use Rattle.walk.specs.Hints.{Hint, hints_of}
 use Rattle.walk.specs.Handing.{unwrap}
 use Rattle.walk.specs.Faults.{Typing, wrap_checks}
 use Rattle.convert.specs.Table.{Lies}
 
 abbrev pub hint_as : List ℕ → ℕ → HintRow → Hint
-hint_as text j h = record { row = j; name = bytes_at text h.name; type = h.data_type; metadata = h.metadata }
+hint_as text j h = record { row = j; name = part text h.name; type = h.data_type; metadata = h.metadata }
 
 -- the hint of the row, or none
 abbrev pub Hinted : List HintRow → List ℕ → Option ℕ → Forest Hint → Type 0

@@ -27,7 +27,7 @@ use crate::hints::{
     first_hint, fits_list, fits_map, fits_struct, has_children, has_name, hint_number, is_over_two,
     is_sorted, list_kind, metadata_of, next_hint, unwrap_hint,
 };
-use crate::reading::{bytes_at, count_children, is_element, is_optional, role_at};
+use crate::reading::{count_children, is_element, is_optional, role_at};
 use crate::rows::{close, close_struct, head_of, is_chosen, is_wrapped, raise, write_leaf};
 use arrow::{ArrowType, Entries, Field, HintRow, Metadata, ResultRow, convert_primitive};
 use schema::{Annotation, Element, Kind, Leaf, Place, Refusal};
@@ -79,7 +79,7 @@ fn check_name(source: Source, at: usize, element: Element, task: Task) -> Result
     if !task.named {
         return Ok(());
     }
-    let name = bytes_at(source.names, element.name);
+    let name = element.name.bytes_in(source.names);
     if !has_name(source.hints, source.text, task.hint, name) {
         return Err(Refusal::HintFieldName(at));
     }

@@ -1,14 +1,13 @@
 // What the walk asks of hint rows.
 ghost use Rattle.std.specs.Prelude.{◌≡◌, ℕ, ◌&&◌, List};
 ghost use Rattle.tree.specs.Forest.{Forest};
-ghost use Rattle.arrow.specs.Same.{bytes_at};
 ghost use Rattle.walk.specs.Hints.{Hint, inside, others, nesting, plain_list, any_list, any_struct, any_map, fits, has_children, over_two};
 ghost use Rattle.walk.specs.Forests.{planted};
 ghost use Rattle.walk.specs.Walk.{by_number, by_id, metadata_of, hinted_list, sorted_in, hinted_sorted, hinted_number};
 ghost use Rattle.convert.specs.Handed.{Hinted, HintsLeft, Sees, Unwrapped, WholeHints, named_as};
 
 use crate::reading::same;
-use arrow::{ArrowType, HintRow, Metadata, TextPlace};
+use arrow::{ArrowType, HintRow, Metadata};
 use schema::Refusal;
 use tree::FlatTree;
 
@@ -205,29 +204,13 @@ pub(crate) fn has_children(hints: &[HintRow], hint: Option<usize>, count: usize)
     }
 }
 
-// The bytes at a place of the hint text, as far as it lies inside.
-fn text_at<'a>(text: &'a [u8], place: TextPlace) -> &'a [u8]
-    ensures { result.now ≡ bytes_at text.now place }
-{
-    let start = place.start;
-    let length = place.length;
-    if start > text.len() {
-        return &text[..0];
-    }
-    let rest = &text[start..];
-    if length > rest.len() {
-        return rest;
-    }
-    &rest[..length]
-}
-
 // Whether a hint is absent, or has this name.
 pub(crate) fn has_name(hints: &[HintRow], text: &[u8], hint: Option<usize>, name: &[u8]) -> bool
     ensures { (hs : Forest Hint) → Hinted hints.now text.now hint hs → result ≡ named_as name.now hs }
 {
     match hint_row(hints, hint) {
         None => true,
-        Some(row) => same(text_at(text, row.name), name),
+        Some(row) => same(row.name.bytes_in(text), name),
     }
 }
 

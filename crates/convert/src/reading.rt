@@ -10,7 +10,7 @@ ghost use Rattle.walk.specs.Reading.{names_element, one_child, list_role, map_ro
 ghost use Rattle.walk.specs.declared.role.Role.TheVariants.{Listed as ListedRole};
 ghost use Rattle.convert.specs.Table.{Stands, Rooted, Reads, kids};
 
-use schema::{Annotation, Element, Kind, Place, Refusal, Repetition};
+use schema::{Annotation, Element, Kind, Refusal, Repetition};
 use tree::FlatTree;
 use walk::Role;
 
@@ -113,22 +113,6 @@ pub(crate) fn role_at(elements: &[Element], at: usize) -> Role
     }
 }
 
-// The bytes at a place of a memory, as far as it lies inside.
-pub(crate) fn bytes_at<'a>(memory: &'a [u8], place: Place) -> &'a [u8]
-    ensures { result.now ≡ part memory.now place }
-{
-    let start = place.start;
-    let length = place.length as usize;
-    if start > memory.len() {
-        return &memory[..0];
-    }
-    let rest = &memory[start..];
-    if length > rest.len() {
-        return rest;
-    }
-    &rest[..length]
-}
-
 pub(crate) fn same(a: &[u8], b: &[u8]) -> bool
     ensures { result ≡ bytes_eq a.now b.now }
 {
@@ -174,8 +158,8 @@ pub(crate) fn is_element(elements: &[Element], names: &[u8], at: usize) -> bool
                 return true;
             }
             let again = is_repeated(elements[child + 1]);
-            let group = bytes_at(names, elements[at].name);
-            let name = bytes_at(names, inner.name);
+            let group = elements[at].name.bytes_in(names);
+            let name = inner.name.bytes_in(names);
             one_child(annotation, again, names_element(group, name))
         }
     }

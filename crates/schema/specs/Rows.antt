@@ -6,7 +6,7 @@ use Rattle.tree.specs.Forest.Forest.{bare, plant}
 use Rattle.schema.specs.declared.element.Element.{Element}
 use Rattle.schema.specs.declared.element.Kind.{Kind}
 use Rattle.schema.specs.declared.element.Kind.TheVariants as k
-use Rattle.schema.specs.Elements.{element_span, is_group, end_of}
+use Rattle.schema.specs.Elements.{element_span, is_group, lies_inside}
 use Rattle.schema.specs.Decimals.{keeps_leaf_rules}
 
 -- Records.
@@ -27,7 +27,7 @@ kind_kept (k.Leaf l) = keeps_leaf_rules l
 
 -- the name lies inside the counted bytes
 abbrev pub named_inside : ℕ → Element → Bool
-named_inside bytes e = nat_le (end_of e.name) bytes
+named_inside bytes e = lies_inside bytes e.name
 
 -- the root: at depth 0, with no repetition, a group with no annotation
 abbrev pub root_kept : ℕ → Element → Bool

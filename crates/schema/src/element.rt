@@ -1,27 +1,67 @@
 // The rows of a schema's table.
-ghost use Rattle.std.specs.Prelude.{◌≡◌, ◌+◌, ◌≤◌, length, MatchOption};
-ghost use Rattle.schema.specs.Elements.{element_span, is_group, end_of, part};
+ghost use Rattle.std.specs.Prelude.{◌≡◌, ℕ, ◌+◌, ◌≤◌, length, MatchOption};
+ghost use Rattle.schema.specs.Elements.{element_span, is_group, counted, end_of, lies_inside, part};
 
 use crate::basic::{Annotation, ConvertedType, LogicalType, PhysicalType, Repetition};
 use tree::Row;
 
-// Where bytes lie in a caller's memory.
-#[derive(Clone, Copy, PartialEq, Eq, Debug)]
-pub struct Place {
-    pub start: usize,
-    pub length: u8,
+// The length of a place: a byte for a name, so that none is longer than 255 bytes, and a `usize` for other places. A trait
+// of its own, since of `Into<usize>` clauses know a relation, and not the number.
+pub trait Length: Copy {
+    // The number that it is, for clauses.
+    ghost length_of: { Self → ℕ };
+
+    fn to_usize(self) -> usize
+        ensures told { result ≡ length_of self };
 }
 
-impl Place {
+impl Length for u8 {
+    ghost length_of = { λ n. n };
+
+    fn to_usize(self) -> usize {
+        usize::from(self)
+    }
+}
+
+impl Length for usize {
+    ghost length_of = { λ n. n };
+
+    fn to_usize(self) -> usize {
+        self
+    }
+}
+
+// Where bytes lie in a caller's memory.
+#[derive(Clone, Copy, PartialEq, Eq, Debug)]
+pub struct Place<N> {
+    pub start: usize,
+    pub length: N,
+}
+
+impl<N: Length> Place<N> {
+    // Whether this place lies inside a memory of so many bytes.
+    pub fn lies_inside(&self, bytes: usize) -> bool
+        ensures inside { result ≡ lies_inside bytes (counted N.length_of self.now) }
+    {
+        self.start <= bytes && self.length.to_usize() <= bytes - self.start
+    }
+
     // The bytes at this place, if it lies inside the memory.
     pub fn read<'a>(&self, memory: &'a [u8]) -> Option<&'a [u8]>
-        ensures bytes { MatchOption result (end_of self.now ≤ length memory.now → ⊥) (λ s. (end_of self.now ≤ length memory.now) × (s.now ≡ part memory.now self.now)) }
+        ensures bytes { MatchOption result (end_of (counted N.length_of self.now) ≤ length memory.now → ⊥) (λ s. (end_of (counted N.length_of self.now) ≤ length memory.now) × (s.now ≡ part memory.now (counted N.length_of self.now))) }
     {
-        let length = self.length as usize;
-        if self.start > memory.len() || length > memory.len() - self.start {
-            return None;
+        self.lies_inside(memory.len())
+            .then(|| &memory[self.start..self.start + self.length.to_usize()])
+    }
+
+    // The bytes at this place, as far as it lies inside the memory.
+    pub fn bytes_in<'a>(&self, memory: &'a [u8]) -> &'a [u8]
+        ensures bytes { result.now ≡ part memory.now (counted N.length_of self.now) }
+    {
+        match memory.get(self.start..) {
+            Some(rest) => &rest[..rest.len().min(self.length.to_usize())],
+            None => &[],
         }
-        Some(&memory[self.start..self.start + length])
     }
 }
 
@@ -56,7 +96,7 @@ impl Kind {
 #[derive(Clone, Copy, PartialEq, Eq, Debug)]
 pub struct Element {
     // where the name lies in the name memory
-    pub name: Place,
+    pub name: Place<u8>,
     // how many elements stand above it
     pub depth: u8,
     // none for the root

@@ -1,7 +1,7 @@
 // Rows by their depths alone: whether they are a schema, and their sizes.
 ghost use Rattle.std.specs.Prelude.{◌≡◌, ℕ, ◌+◌, ◌<◌, ◌≤◌, ◌++◌, length, drop, slice_index_or};
 ghost use Rattle.schema.specs.Elements.{empty};
-ghost use Rattle.schema.specs.Rows.{plain_group, kind_kept, named_inside, root_kept, row_kept, may_follow, next_kept, rows_kept, depths_of, deeper, sized, sizes_kept};
+ghost use Rattle.schema.specs.Rows.{plain_group, kind_kept, root_kept, row_kept, may_follow, next_kept, rows_kept, depths_of, deeper, sized, sizes_kept};
 
 use crate::draft::MAX_DEPTH;
 use crate::element::{Element, Kind};
@@ -22,12 +22,6 @@ fn keeps_kind(kind: &Kind) -> bool
     }
 }
 
-fn is_inside(element: &Element, bytes: usize) -> bool
-    ensures { result ≡ named_inside bytes element.now }
-{
-    element.name.start <= bytes && element.name.length as usize <= bytes - element.name.start
-}
-
 // Whether the row may be the root.
 fn keeps_root(element: &Element, bytes: usize) -> bool
     ensures { result ≡ root_kept bytes element.now }
@@ -35,7 +29,7 @@ fn keeps_root(element: &Element, bytes: usize) -> bool
     element.depth == 0
         && element.repetition.is_none()
         && is_plain(&element.kind)
-        && is_inside(element, bytes)
+        && element.name.lies_inside(bytes)
 }
 
 // Whether the row may stand below the root.
@@ -45,7 +39,7 @@ fn keeps_row(element: &Element, bytes: usize) -> bool
     (1..=MAX_DEPTH).contains(&element.depth)
         && element.repetition.is_some()
         && keeps_kind(&element.kind)
-        && is_inside(element, bytes)
+        && element.name.lies_inside(bytes)
 }
 
 // Whether the row may come right after the row before it, by their depths.

@@ -1,6 +1,6 @@
 -- Hints: an Arrow schema as trees, and what the walk asks of the hint that an element is given.
 use Rattle.std.specs.Prelude.{ℕ, ◌+◌, Bool, true, false, ◌&&◌, List, Some, None, Option, ◌==◌}
-use Rattle.arrow.specs.Same.{bytes_at}
+use Rattle.schema.specs.Elements.{part}
 use Rattle.arrow.specs.declared.hint.HintRow.{HintRow}
 use Rattle.arrow.specs.declared.types.ArrowType.{ArrowType}
 use Rattle.walk.specs.Forests.{trees}
@@ -20,7 +20,7 @@ pub record Hint : Type 0 where
 abbrev pub hints_of : List ℕ → ℕ → Forest HintRow → Forest Hint
 hints_of text n bare = bare
 hints_of text n (plant h below after) =
-    plant (record { row = n; name = bytes_at text h.name; type = h.data_type; metadata = h.metadata })
+    plant (record { row = n; name = part text h.name; type = h.data_type; metadata = h.metadata })
     (hints_of text (n + 1) below)
     (hints_of text (n + 1 + count below) after)
 

@@ -20,10 +20,10 @@ pub returns-then-not-has_name : goal.returns-then-not-has_name
 returns-then-not-has_name c = λ hs p. (
   [],
   name_on c.args.at (part (read_by c.args.source).names c.args.element.name) c.args.task.named hs false (not_off c.args.task.named c.if-not-task.false)
-      (ap (λ (x : List ℕ). named_as x hs) (sym c.bytes_at-name.ensures) ∙ sym (c.has_name.ensures hs p) ∙ c.if-not-has_name.true),
+      (ap (λ (x : List ℕ). named_as x hs) (sym c.bytes_in-name.ensures.bytes) ∙ sym (c.has_name.ensures hs p) ∙ c.if-not-has_name.true),
 )
 
 pub returns : goal.returns
 returns c = λ hs p.
     name_on c.args.at (part (read_by c.args.source).names c.args.element.name) c.args.task.named hs true (not_off c.args.task.named c.if-not-task.false)
-    (ap (λ (x : List ℕ). named_as x hs) (sym c.bytes_at-name.ensures) ∙ sym (c.has_name.ensures hs p) ∙ c.if-not-has_name.false)
+    (ap (λ (x : List ℕ). named_as x hs) (sym c.bytes_in-name.ensures.bytes) ∙ sym (c.has_name.ensures hs p) ∙ c.if-not-has_name.false)

@@ -8,5 +8,5 @@ returns-in-None c = λ hs p. name_none c.args.text.now c.args.name.now hs (c.in-
 
 pub returns-in-Some : goal.returns-in-Some
 returns-in-Some c = λ hs p.
-    c.same.ensures ∙ ap (λ (x : List ℕ). bytes_eq x c.args.name.now) c.text_at.ensures
+    c.same.ensures ∙ ap (λ (x : List ℕ). bytes_eq x c.args.name.now) c.bytes_in.ensures.bytes
     ∙ name_row c.args.text.now c.args.name.now c.in-Some.row hs (c.in-Some.ensures c.args.text.now hs p)

@@ -45,4 +45,4 @@ returns-else-count_children-ne1 c = λ e b n q k.
     let o = c.count_children.ensures s.child s.under bare (child_stands e b n q s) in
     takes_one e b n q s c.args.names.now k c.in-Group.annotation c.in-Group.is (sym o ∙ c.if-count_children-ne1.false)
     ∙ sym (c.one_child.ensures
-    ∙ ap₂ (λ (x y : Bool). one_child c.in-Group.annotation x y) c.is_repeated-again.ensures (c.names_element.ensures ∙ ap₂ names_element c.bytes_at-group.ensures c.bytes_at-name.ensures))
+    ∙ ap₂ (λ (x y : Bool). one_child c.in-Group.annotation x y) c.is_repeated-again.ensures (c.names_element.ensures ∙ ap₂ names_element c.bytes_in-group.ensures.bytes c.bytes_in-name.ensures.bytes))

@@ -2,6 +2,5 @@ pub mod Texts
 pub mod Meanings
 pub mod Depths
 pub mod Checked
-pub mod Hinted
 pub mod Ways
 pub mod Leaves

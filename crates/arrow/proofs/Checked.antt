@@ -1,20 +1,11 @@
 -- The check of hint rows answers whether they are a hint.
-use Rattle.std.proofs.Common.{◌≡◌, ℕ, ◌+◌, ◌<◌, ◌≤◌, Bool, true, false, eqb, List, [], ◌∷◌, length, get_or, Decides, sym, refl, ap, ◌∙◌, subst, inl, inr, append-nil, arith, below_more}
+use Rattle.std.proofs.Common.{◌≡◌, ℕ, ◌+◌, ◌≤◌, Bool, true, false, eqb, List, [], ◌∷◌, length, Decides, sym, refl, ap, ◌∙◌, inl, inr, append-nil, arith}
 use Rattle.std.proofs.lemmas.Bool.{false≢true, eqb-true}
-use Rattle.tree.specs.Forest.{Forest, alone, listing, Lists, IsFlatTree, count, children}
+use Rattle.tree.specs.Forest.{Forest, alone, listing, Lists, IsFlatTree, count}
 use Rattle.arrow.specs.declared.hint.HintRow.{HintRow}
 use Rattle.arrow.specs.Kinds.{hint_span}
-use Rattle.arrow.specs.HintTrees.{empty_hint, hint_kept, HintsKept, IsHint, shallow, Lies}
+use Rattle.arrow.specs.HintTrees.{HintsKept, IsHint, shallow, Lies}
 use Rattle.arrow.proofs.Depths.{depth_below, below_depth}
-
--- the loop over the rows
-pub kept_more :
-    (n : ℕ) (rows : List HintRow) (f : Forest HintRow) (i k : ℕ) →
-    ((j : ℕ) → j < i → hint_kept n (get_or rows j empty_hint) (length (children f j)) ≡ true) →
-    k ≡ length (children f i) → hint_kept n (get_or rows i empty_hint) k ≡ true →
-    (j : ℕ) → j < i + 1 → hint_kept n (get_or rows j empty_hint) (length (children f j)) ≡ true
-kept_more n rows f i k before e here =
-    below_more (λ j. hint_kept n (get_or rows j empty_hint) (length (children f j)) ≡ true) i before (subst (λ m. hint_kept n (get_or rows i empty_hint) m ≡ true) e here)
 
 -- rows that list a forest lie from the first on
 whole : (f : Forest HintRow) (rows : List HintRow) → Lists hint_span f rows → Lies rows 0 f

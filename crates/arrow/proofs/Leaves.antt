@@ -164,21 +164,8 @@ each_column p.ByteArray w u = u.2
 each_column p.FixedLenByteArray w u = u.3
 
 each_known : (x : Annotation) (o : Answer) → Undictionary o → Undictionary (known x o)
-each_known plain o q = q
 each_known unknown o q = refl
-each_known string o q = q
-each_known enum o q = q
-each_known json o q = q
-each_known bson o q = q
-each_known uuid o q = q
-each_known float16 o q = q
-each_known date o q = q
-each_known interval o q = q
-each_known nested o q = q
-each_known (decimal s d) o q = q
-each_known (integer w g) o q = q
-each_known (time u) o q = q
-each_known (timestamp z u) o q = q
+each_known x o q = q
 
 own_plain : (f : Leaf) (own : ArrowType) → leaf_type f ≡ Some own → is_dictionary own ≡ false
 own_plain f own e =
@@ -187,42 +174,12 @@ own_plain f own e =
 -- Decimals.
 
 logical_decimal : (t : LogicalType) (n : Annotation) (s d : ℤ) (x : ℤ × ℤ) (cv : Option ConvertedType) → annotated (Some t) cv s d ≡ Some x → first_told (Some t) n ≡ decimal x.0 x.1
-logical_decimal l.Unknown n s d x cv e = absurd (let q : ◌≡◌ {A = ℕ} 0 1 = cc in omega arith)
-logical_decimal l.String n s d x cv e = absurd (let q : ◌≡◌ {A = ℕ} 0 1 = cc in omega arith)
-logical_decimal l.Enum n s d x cv e = absurd (let q : ◌≡◌ {A = ℕ} 0 1 = cc in omega arith)
-logical_decimal l.Json n s d x cv e = absurd (let q : ◌≡◌ {A = ℕ} 0 1 = cc in omega arith)
-logical_decimal l.Bson n s d x cv e = absurd (let q : ◌≡◌ {A = ℕ} 0 1 = cc in omega arith)
-logical_decimal l.Uuid n s d x cv e = absurd (let q : ◌≡◌ {A = ℕ} 0 1 = cc in omega arith)
-logical_decimal l.Float16 n s d x cv e = absurd (let q : ◌≡◌ {A = ℕ} 0 1 = cc in omega arith)
-logical_decimal l.Date n s d x cv e = absurd (let q : ◌≡◌ {A = ℕ} 0 1 = cc in omega arith)
 logical_decimal (l.Decimal s' d') n s d x cv e = ap (λ y. decimal y.0 y.1) (some_is (s', d') x e)
-logical_decimal (l.Integer w g) n s d x cv e = absurd (let q : ◌≡◌ {A = ℕ} 0 1 = cc in omega arith)
-logical_decimal (l.Time z u) n s d x cv e = absurd (let q : ◌≡◌ {A = ℕ} 0 1 = cc in omega arith)
-logical_decimal (l.Timestamp z u) n s d x cv e = absurd (let q : ◌≡◌ {A = ℕ} 0 1 = cc in omega arith)
+logical_decimal t n s d x cv e = absurd (let q : ◌≡◌ {A = ℕ} 0 1 = cc in omega arith)
 
 converted_decimal : (cv : ConvertedType) (s d : ℤ) (x : ℤ × ℤ) → annotated None (Some cv) s d ≡ Some x → by_converted s d cv ≡ decimal x.0 x.1
-converted_decimal c.Utf8 s d x e = absurd (let q : ◌≡◌ {A = ℕ} 0 1 = cc in omega arith)
-converted_decimal c.Map s d x e = absurd (let q : ◌≡◌ {A = ℕ} 0 1 = cc in omega arith)
-converted_decimal c.MapKeyValue s d x e = absurd (let q : ◌≡◌ {A = ℕ} 0 1 = cc in omega arith)
-converted_decimal c.List s d x e = absurd (let q : ◌≡◌ {A = ℕ} 0 1 = cc in omega arith)
-converted_decimal c.Enum s d x e = absurd (let q : ◌≡◌ {A = ℕ} 0 1 = cc in omega arith)
 converted_decimal c.Decimal s d x e = ap (λ y. decimal y.0 y.1) (some_is (s, d) x e)
-converted_decimal c.Date s d x e = absurd (let q : ◌≡◌ {A = ℕ} 0 1 = cc in omega arith)
-converted_decimal c.TimeMillis s d x e = absurd (let q : ◌≡◌ {A = ℕ} 0 1 = cc in omega arith)
-converted_decimal c.TimeMicros s d x e = absurd (let q : ◌≡◌ {A = ℕ} 0 1 = cc in omega arith)
-converted_decimal c.TimestampMillis s d x e = absurd (let q : ◌≡◌ {A = ℕ} 0 1 = cc in omega arith)
-converted_decimal c.TimestampMicros s d x e = absurd (let q : ◌≡◌ {A = ℕ} 0 1 = cc in omega arith)
-converted_decimal c.UInt8 s d x e = absurd (let q : ◌≡◌ {A = ℕ} 0 1 = cc in omega arith)
-converted_decimal c.UInt16 s d x e = absurd (let q : ◌≡◌ {A = ℕ} 0 1 = cc in omega arith)
-converted_decimal c.UInt32 s d x e = absurd (let q : ◌≡◌ {A = ℕ} 0 1 = cc in omega arith)
-converted_decimal c.UInt64 s d x e = absurd (let q : ◌≡◌ {A = ℕ} 0 1 = cc in omega arith)
-converted_decimal c.Int8 s d x e = absurd (let q : ◌≡◌ {A = ℕ} 0 1 = cc in omega arith)
-converted_decimal c.Int16 s d x e = absurd (let q : ◌≡◌ {A = ℕ} 0 1 = cc in omega arith)
-converted_decimal c.Int32 s d x e = absurd (let q : ◌≡◌ {A = ℕ} 0 1 = cc in omega arith)
-converted_decimal c.Int64 s d x e = absurd (let q : ◌≡◌ {A = ℕ} 0 1 = cc in omega arith)
-converted_decimal c.Json s d x e = absurd (let q : ◌≡◌ {A = ℕ} 0 1 = cc in omega arith)
-converted_decimal c.Bson s d x e = absurd (let q : ◌≡◌ {A = ℕ} 0 1 = cc in omega arith)
-converted_decimal c.Interval s d x e = absurd (let q : ◌≡◌ {A = ℕ} 0 1 = cc in omega arith)
+converted_decimal k s d x e = absurd (let q : ◌≡◌ {A = ℕ} 0 1 = cc in omega arith)
 
 annotated_decimal : (o : Option LogicalType) (cv : Option ConvertedType) (s d : ℤ) (x : ℤ × ℤ) → annotated o cv s d ≡ Some x → first_told o (converted_told s d cv) ≡ decimal x.0 x.1
 annotated_decimal (Some t) cv s d x e = logical_decimal t (converted_told s d cv) s d x cv e
@@ -250,15 +207,12 @@ fixed_length (pos n) k e = (and_parts (ltb 0 n && leb n 32) _ e).0
 fixed_length (negsuc n) k e = absurd (false≢true e)
 
 held : (x : PhysicalType) (n s d : ℤ) → within_limit x n (digits d) ≡ true → tellable s d ≡ true → EitherWidth s d (column x (row n (decimal s d)))
-held p.Boolean n s d h e = absurd (false≢true h)
 held p.Int32 n s d h e = inl (rw e refl)
 held p.Int64 n s d h e = inl (rw e refl)
-held p.Int96 n s d h e = absurd (false≢true h)
-held p.Float n s d h e = absurd (false≢true h)
-held p.Double n s d h e = absurd (false≢true h)
 held p.ByteArray n s d h e = width_if (le_z d (pos 38)) s d e
 held p.FixedLenByteArray n s d h e =
     subst (λ b. EitherWidth s d (cond b (cond (le_z n (pos 16)) (decimal_128 s d) (decimal_256 s d)) None)) (sym (fixed_length n (digits d) h)) (width_if (le_z n (pos 16)) s d e)
+held x n s d h e = absurd (false≢true h)
 
 fitting : (x : PhysicalType) (n s d : ℤ) → fits x n s d ≡ true → EitherWidth s d (column x (row n (decimal s d)))
 fitting x n s d h =

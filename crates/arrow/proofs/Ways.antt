@@ -1,85 +1,40 @@
 -- What a hint does to a leaf's own type: it leaves it, is taken as it stands, or is a dictionary that is kept.
-use Rattle.std.proofs.Common.{◌≡◌, ℕ, ◌+◌, Bool, true, false, not, ◌&&◌, eqb, ◌⊎◌, List, [], ◌∷◌, ℤ, Some, sym, refl, ap, ◌∙◌, subst, inl, inr, arith}
-use Rattle.std.proofs.lemmas.Bool.{false≢true, cases_Bool, and_parts, or_cases, eqb-true}
+use Rattle.std.proofs.Common.{◌≡◌, ℕ, ◌+◌, Bool, true, false, not, ◌&&◌, eqb, ◌⊎◌, List, [], ◌∷◌, ℤ, Some, None, sym, refl, ap, ◌∙◌, subst, inl, inr, arith}
+use Rattle.std.proofs.lemmas.Bool.{false≢true, cases_Bool, and_parts, or_cases}
+use Rattle.std.proofs.lemmas.Bool.Decides.{Decides-int_eq}
 use Rattle.arrow.specs.declared.types.TimeUnit.{TimeUnit}
-use Rattle.arrow.specs.declared.types.Zone.TheVariants.{Absent}
 use Rattle.arrow.specs.declared.types.ArrowType.{ArrowType}
 use Rattle.arrow.specs.declared.types.ArrowType.TheVariants as a
 use Rattle.arrow.specs.declared.hint.HintRow.{HintRow}
-use Rattle.arrow.specs.Same.{same, bared, meaning, unit_number}
-use Rattle.arrow.specs.Hints.{View, view, named, stamp, decimal, dictionary, dictionary_seen, is_dictionary, only_child, told, takes, same_unit, zoneless, hinted}
+use Rattle.arrow.specs.Same.{same, bared, meaning}
+use Rattle.arrow.specs.Hints.{View, view, stamp, decimal, dictionary_seen, is_dictionary, only_child, told, takes, same_unit, zoneless, hinted}
 use Rattle.arrow.specs.Laws.{scale_seen, unit_seen, scale_of, stamp_unit}
-use Rattle.arrow.proofs.Meanings.{same_decides, same_refl, same_number_decides, unit_same}
+use Rattle.arrow.proofs.Meanings.{same_decides, same_refl, unit_decides}
 
 -- What types of one meaning share.
 
 abbrev bare_view : View → View
-bare_view (named k) = named k
-bare_view (stamp u z) = stamp u Absent
-bare_view (decimal b d s) = decimal b d s
-bare_view dictionary = dictionary
+bare_view (stamp u z) = stamp u None
+bare_view v = v
 
 view_bared : (t : ArrowType) → view (bared t) ≡ bare_view (view t)
 view_bared a.Null = refl
-view_bared a.Boolean = refl
-view_bared a.Int8 = refl
-view_bared a.Int16 = refl
-view_bared a.Int32 = refl
-view_bared a.Int64 = refl
-view_bared a.UInt8 = refl
-view_bared a.UInt16 = refl
-view_bared a.UInt32 = refl
-view_bared a.UInt64 = refl
-view_bared a.Float16 = refl
-view_bared a.Float32 = refl
-view_bared a.Float64 = refl
-view_bared a.Utf8 = refl
-view_bared a.LargeUtf8 = refl
-view_bared a.Utf8View = refl
-view_bared a.Binary = refl
-view_bared a.LargeBinary = refl
-view_bared a.BinaryView = refl
-view_bared (a.FixedSizeBinary n) = refl
-view_bared a.Date32 = refl
-view_bared a.Date64 = refl
-view_bared (a.Time32 u) = refl
-view_bared (a.Time64 u) = refl
-view_bared (a.Timestamp u z) = refl
-view_bared (a.Duration u) = refl
-view_bared (a.Interval u) = refl
-view_bared (a.Decimal32 p s) = refl
-view_bared (a.Decimal64 p s) = refl
-view_bared (a.Decimal128 p s) = refl
-view_bared (a.Decimal256 p s) = refl
-view_bared a.List = refl
-view_bared a.LargeList = refl
-view_bared a.ListView = refl
-view_bared a.LargeListView = refl
-view_bared (a.FixedSizeList n) = refl
-view_bared a.Struct = refl
-view_bared (a.Map s) = refl
-view_bared (a.Dictionary i) = refl
+view_bared t = refl
 
 view_same : (text : List ℕ) (x y : ArrowType) → meaning text x ≡ meaning text y → bare_view (view x) ≡ bare_view (view y)
 view_same text x y e = sym (view_bared x) ∙ ap (λ m. view m.0) e ∙ view_bared y
 
 dictionary_bare : (v : View) → dictionary_seen (bare_view v) ≡ dictionary_seen v
-dictionary_bare (named k) = refl
 dictionary_bare (stamp u z) = refl
-dictionary_bare (decimal b d s) = refl
-dictionary_bare dictionary = refl
+dictionary_bare v = refl
 
 scale_bare : (v : View) → scale_seen (bare_view v) ≡ scale_seen v
-scale_bare (named k) = refl
 scale_bare (stamp u z) = refl
-scale_bare (decimal b d s) = refl
-scale_bare dictionary = refl
+scale_bare v = refl
 
 unit_bare : (v : View) → unit_seen (bare_view v) ≡ unit_seen v
-unit_bare (named k) = refl
 unit_bare (stamp u z) = refl
-unit_bare (decimal b d s) = refl
-unit_bare dictionary = refl
+unit_bare v = refl
 
 module _ (text : List ℕ) (x y : ArrowType) (e : meaning text x ≡ meaning text y) where
   pub same_dictionary : is_dictionary x ≡ is_dictionary y
@@ -94,28 +49,20 @@ module _ (text : List ℕ) (x y : ArrowType) (e : meaning text x ≡ meaning tex
 -- What a hint that is taken shares with the leaf's own type.
 
 pub takes_scale : (fixed : Bool) (v w : View) (s : ℤ) → takes fixed v w ≡ true → scale_seen v ≡ Some s → scale_seen w ≡ Some s
-takes_scale fixed (named p) w s h e = absurd (let z : ◌≡◌ {A = ℕ} 0 1 = cc in omega arith)
-takes_scale fixed (stamp u z) w s h e = absurd (let q : ◌≡◌ {A = ℕ} 0 1 = cc in omega arith)
-takes_scale fixed (decimal b d r) (named t) s h e = absurd (false≢true h)
-takes_scale fixed (decimal b d r) (stamp v y) s h e = absurd (false≢true h)
 takes_scale fixed (decimal b d r) (decimal c q t) s h e =
     let parts = and_parts (eqb b 128 && not (eqb c 128)) _ h in
-    ap Some (sym ((same_number_decides r t).0 parts.1)) ∙ e
-takes_scale fixed (decimal b d r) dictionary s h e = absurd (false≢true h)
-takes_scale fixed dictionary w s h e = absurd (false≢true h)
+    ap Some (sym ((Decides-int_eq r t).0 parts.1)) ∙ e
+takes_scale fixed (decimal b d r) w s h e = absurd (false≢true h)
+takes_scale fixed v w s h e = absurd (let q : ◌≡◌ {A = ℕ} 0 1 = cc in omega arith)
 
 pub takes_unit : (v w : View) (u : TimeUnit) → takes true v w ≡ true → unit_seen v ≡ Some u → unit_seen w ≡ Some u
-takes_unit (named p) w u h e = absurd (let z : ◌≡◌ {A = ℕ} 0 1 = cc in omega arith)
-takes_unit (stamp m z) (named t) u h e = absurd (false≢true h)
 takes_unit (stamp m z) (stamp n y) u h e =
     elim (or_cases (same_unit m n && not (zoneless y)) false h) [
-      | inl k ↦ ap Some (sym (unit_same m n (eqb-true (unit_number m) (unit_number n) (and_parts (same_unit m n) (not (zoneless y)) k).0))) ∙ e
+      | inl k ↦ ap Some (sym ((unit_decides m n).0 (and_parts (same_unit m n) (not (zoneless y)) k).0)) ∙ e
       | inr k ↦ absurd (false≢true k)
     ]
-takes_unit (stamp m z) (decimal c q t) u h e = absurd (false≢true h)
-takes_unit (stamp m z) dictionary u h e = absurd (false≢true h)
-takes_unit (decimal b d r) w u h e = absurd (let z : ◌≡◌ {A = ℕ} 0 1 = cc in omega arith)
-takes_unit dictionary w u h e = absurd (false≢true h)
+takes_unit (stamp m z) w u h e = absurd (false≢true h)
+takes_unit v w u h e = absurd (let q : ◌≡◌ {A = ℕ} 0 1 = cc in omega arith)
 
 -- Three ways.
 

@@ -14,14 +14,8 @@ use Rattle.arrow.specs.Hints.{hinted, hinted_by}
 
 -- an INT64 has a time only by its annotation, which says the unit
 abbrev pub unit_fixed : PhysicalType → Bool
-unit_fixed p.Boolean = false
-unit_fixed p.Int32 = false
 unit_fixed p.Int64 = true
-unit_fixed p.Int96 = false
-unit_fixed p.Float = false
-unit_fixed p.Double = false
-unit_fixed p.ByteArray = false
-unit_fixed p.FixedLenByteArray = false
+unit_fixed t = false
 
 -- what the hint at a row, if one is given, makes of the leaf's own type
 abbrev pub under_hint : Leaf → List HintRow → List ℕ → Option ℕ → ArrowType → ArrowType

@@ -1,10 +1,10 @@
 -- Which rows are a hint.
-use Rattle.std.specs.Prelude.{◌≡◌, ℕ, zero, suc, ◌<◌, ◌≤◌, Bool, true, false, ◌&&◌, ◌⊎◌, List, [], ◌++◌, length, drop, ◌==◌, nat_le, slice_index_or}
+use Rattle.std.specs.Prelude.{◌≡◌, ℕ, zero, suc, ◌<◌, ◌≤◌, Bool, true, false, ◌&&◌, ◌⊎◌, List, [], ◌++◌, length, drop, ◌==◌, nat_le, slice_index_or, Some, None, Option}
 use Rattle.tree.specs.Forest.{Forest, Tree, alone, listing, Sized, Lists, depth, children}
 use Rattle.tree.specs.Forest.Forest.{bare, plant}
 use Rattle.schema.specs.Elements.{lies_inside}
 use Rattle.arrow.specs.declared.types.Zone.{Zone}
-use Rattle.arrow.specs.declared.types.Zone.TheVariants.{Absent, Utc, Text}
+use Rattle.arrow.specs.declared.types.Zone.TheVariants.{Utc, Text}
 use Rattle.arrow.specs.declared.types.ArrowType.{ArrowType}
 use Rattle.arrow.specs.declared.types.ArrowType.TheVariants as a
 use Rattle.arrow.specs.declared.hint.HintRow.{HintRow}
@@ -19,37 +19,6 @@ pub data Brood : Type 0 where
 
 -- lists, maps and dictionaries have one child, structs any number, all others none
 abbrev pub brood_of : ArrowType → Brood
-brood_of a.Null = childless
-brood_of a.Boolean = childless
-brood_of a.Int8 = childless
-brood_of a.Int16 = childless
-brood_of a.Int32 = childless
-brood_of a.Int64 = childless
-brood_of a.UInt8 = childless
-brood_of a.UInt16 = childless
-brood_of a.UInt32 = childless
-brood_of a.UInt64 = childless
-brood_of a.Float16 = childless
-brood_of a.Float32 = childless
-brood_of a.Float64 = childless
-brood_of a.Utf8 = childless
-brood_of a.LargeUtf8 = childless
-brood_of a.Utf8View = childless
-brood_of a.Binary = childless
-brood_of a.LargeBinary = childless
-brood_of a.BinaryView = childless
-brood_of (a.FixedSizeBinary n) = childless
-brood_of a.Date32 = childless
-brood_of a.Date64 = childless
-brood_of (a.Time32 u) = childless
-brood_of (a.Time64 u) = childless
-brood_of (a.Timestamp u z) = childless
-brood_of (a.Duration u) = childless
-brood_of (a.Interval u) = childless
-brood_of (a.Decimal32 p s) = childless
-brood_of (a.Decimal64 p s) = childless
-brood_of (a.Decimal128 p s) = childless
-brood_of (a.Decimal256 p s) = childless
 brood_of a.List = single
 brood_of a.LargeList = single
 brood_of a.ListView = single
@@ -58,17 +27,18 @@ brood_of (a.FixedSizeList n) = single
 brood_of a.Struct = any
 brood_of (a.Map s) = single
 brood_of (a.Dictionary i) = single
+brood_of t = childless
 
 abbrev pub brood_kept : Brood → ℕ → Bool
 brood_kept childless k = k == 0
 brood_kept single k = k == 1
 brood_kept any k = true
 
--- a hint's zone is absent, or a place of at least one byte
-abbrev pub zone_inside : ℕ → Zone → Bool
-zone_inside n Absent = true
-zone_inside n Utc = false
-zone_inside n (Text p) = nat_le 1 p.length && lies_inside n p
+-- a hint's zone, if it has one, is a place of at least one byte
+abbrev pub zone_inside : ℕ → Option Zone → Bool
+zone_inside n None = true
+zone_inside n (Some Utc) = false
+zone_inside n (Some (Text p)) = nat_le 1 p.length && lies_inside n p
 
 -- a row with k children, beside a text of n bytes
 abbrev pub hint_kept : ℕ → HintRow → ℕ → Bool

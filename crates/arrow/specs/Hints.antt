@@ -1,15 +1,16 @@
 -- What a hint makes of the type that a leaf has by itself.
-use Rattle.std.specs.Prelude.{ℕ, ◌+◌, Bool, true, false, cond, not, ◌&&◌, ◌||◌, List, [], ◌∷◌, ℤ, ◌==◌, nat_le}
+use Rattle.std.specs.Prelude.{ℕ, ◌+◌, Bool, true, false, cond, not, ◌&&◌, ◌||◌, List, [], ◌∷◌, ℤ, Some, None, Option, ◌==◌, nat_le}
+use Rattle.std.specs.Ordering.{int_eq}
 use Rattle.tree.specs.Forest.{Forest}
 use Rattle.tree.specs.Forest.Forest.{bare, plant}
 use Rattle.arrow.specs.declared.types.TimeUnit.{TimeUnit}
 use Rattle.arrow.specs.declared.types.TimeUnit.TheVariants.{Nanosecond}
 use Rattle.arrow.specs.declared.types.Zone.{Zone}
-use Rattle.arrow.specs.declared.types.Zone.TheVariants.{Absent, Utc, Text}
 use Rattle.arrow.specs.declared.types.ArrowType.{ArrowType}
 use Rattle.arrow.specs.declared.types.ArrowType.TheVariants as a
 use Rattle.arrow.specs.declared.hint.HintRow.{HintRow}
-use Rattle.arrow.specs.Same.{same, same_number, unit_number}
+use Rattle.arrow.specs.contracts.types.TimeUnitPartialEq.TheImpl as unit
+use Rattle.arrow.specs.Same.{same}
 
 -- the types that the rules below name, each by a number
 abbrev pub other : ℕ
@@ -60,31 +61,19 @@ utf8_view = 14
 -- a type as the rules see it: by its number, or with what they ask of it
 pub data View : Type 0 where
   named : ℕ → View
-  stamp : TimeUnit → Zone → View
+  stamp : TimeUnit → Option Zone → View
   decimal : (bits digits : ℕ) (scale : ℤ) → View
   dictionary : View
 
 abbrev pub view : ArrowType → View
-view a.Null = named other
-view a.Boolean = named other
-view a.Int8 = named other
-view a.Int16 = named other
 view a.Int32 = named int32
 view a.Int64 = named int64
-view a.UInt8 = named other
-view a.UInt16 = named other
-view a.UInt32 = named other
-view a.UInt64 = named other
-view a.Float16 = named other
-view a.Float32 = named other
-view a.Float64 = named other
 view a.Utf8 = named utf8
 view a.LargeUtf8 = named large_utf8
 view a.Utf8View = named utf8_view
 view a.Binary = named binary
 view a.LargeBinary = named large_binary
 view a.BinaryView = named binary_view
-view (a.FixedSizeBinary n) = named other
 view a.Date32 = named date32
 view a.Date64 = named date64
 view (a.Time32 u) = named time32
@@ -96,14 +85,8 @@ view (a.Decimal32 p s) = decimal 32 p s
 view (a.Decimal64 p s) = decimal 64 p s
 view (a.Decimal128 p s) = decimal 128 p s
 view (a.Decimal256 p s) = decimal 256 p s
-view a.List = named other
-view a.LargeList = named other
-view a.ListView = named other
-view a.LargeListView = named other
-view (a.FixedSizeList n) = named other
-view a.Struct = named other
-view (a.Map s) = named other
 view (a.Dictionary i) = dictionary
+view t = named other
 
 -- The hints that are taken: the leaf's own type, and the hint.
 abbrev pub pairs : List (ℕ × ℕ)
@@ -116,17 +99,17 @@ abbrev pub has_pair : ℕ → ℕ → List (ℕ × ℕ) → Bool
 has_pair p t [] = false
 has_pair p t (x ∷ xs) = (p == x.0 && t == x.1) || has_pair p t xs
 
+-- the `==` that units derive
 abbrev pub same_unit : TimeUnit → TimeUnit → Bool
-same_unit u v = unit_number u == unit_number v
+same_unit = unit.ghosts.eq
 
-abbrev pub zoneless : Zone → Bool
-zoneless Absent = true
-zoneless Utc = false
-zoneless (Text p) = false
+abbrev pub zoneless : Option Zone → Bool
+zoneless None = true
+zoneless (Some z) = false
 
 -- A time takes a hint of its own unit that has a zone. A time of nanoseconds with no zone whose unit is not fixed, as an
 -- INT96 has, takes a hint of any other unit.
-abbrev pub takes_stamp : Bool → TimeUnit → Zone → TimeUnit → Zone → Bool
+abbrev pub takes_stamp : Bool → TimeUnit → Option Zone → TimeUnit → Option Zone → Bool
 takes_stamp fixed u z v y =
     (same_unit u v && not (zoneless y)) || (not fixed && same_unit u Nanosecond && zoneless z && not (same_unit v Nanosecond))
 
@@ -135,23 +118,13 @@ takes_stamp fixed u z v y =
 abbrev pub takes : Bool → View → View → Bool
 takes fixed (named p) (named t) = has_pair p t pairs
 takes fixed (named p) (stamp v y) = p == int32 || p == int64
-takes fixed (named p) (decimal c q t) = false
-takes fixed (named p) dictionary = false
-takes fixed (stamp u z) (named t) = false
 takes fixed (stamp u z) (stamp v y) = takes_stamp fixed u z v y
-takes fixed (stamp u z) (decimal c q t) = false
-takes fixed (stamp u z) dictionary = false
-takes fixed (decimal b p s) (named t) = false
-takes fixed (decimal b p s) (stamp v y) = false
-takes fixed (decimal b p s) (decimal c q t) = b == 128 && not (c == 128) && same_number s t
-takes fixed (decimal b p s) dictionary = false
-takes fixed dictionary t = false
+takes fixed (decimal b p s) (decimal c q t) = b == 128 && not (c == 128) && int_eq s t
+takes fixed p t = false
 
 abbrev pub dictionary_seen : View → Bool
-dictionary_seen (named k) = false
-dictionary_seen (stamp u z) = false
-dictionary_seen (decimal b p s) = false
 dictionary_seen dictionary = true
+dictionary_seen v = false
 
 abbrev pub is_dictionary : ArrowType → Bool
 is_dictionary t = dictionary_seen (view t)

@@ -15,20 +15,16 @@ use Rattle.arrow.specs.Same.{meaning}
 use Rattle.arrow.specs.HintTrees.{empty_hint}
 use Rattle.arrow.specs.Annotations.{annotation, timestamp}
 use Rattle.arrow.specs.Table.{leaf_type, unit_of}
-use Rattle.arrow.specs.Hints.{View, view, named, stamp, decimal, dictionary, is_dictionary, told}
+use Rattle.arrow.specs.Hints.{View, view, stamp, decimal, is_dictionary, told}
 use Rattle.arrow.specs.Convert.{converted_leaf, typed_under}
 
 abbrev pub scale_seen : View → Option ℤ
-scale_seen (named k) = None
-scale_seen (stamp u z) = None
 scale_seen (decimal b d s) = Some s
-scale_seen dictionary = None
+scale_seen v = None
 
 abbrev pub unit_seen : View → Option TimeUnit
-unit_seen (named k) = None
 unit_seen (stamp u z) = Some u
-unit_seen (decimal b d s) = None
-unit_seen dictionary = None
+unit_seen v = None
 
 -- a decimal's scale, and a timestamp's unit
 abbrev pub scale_of : ArrowType → Option ℤ

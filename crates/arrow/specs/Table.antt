@@ -10,7 +10,7 @@ use Rattle.arrow.specs.declared.types.TimeUnit.{TimeUnit}
 use Rattle.arrow.specs.declared.types.TimeUnit.TheVariants.{Millisecond, Microsecond, Nanosecond}
 use Rattle.arrow.specs.declared.types.IntervalUnit.TheVariants.{DayTime}
 use Rattle.arrow.specs.declared.types.Zone.{Zone}
-use Rattle.arrow.specs.declared.types.Zone.TheVariants.{Absent, Utc}
+use Rattle.arrow.specs.declared.types.Zone.TheVariants.{Utc}
 use Rattle.arrow.specs.declared.types.ArrowType.{ArrowType}
 use Rattle.arrow.specs.declared.types.ArrowType.TheVariants as a
 use Rattle.arrow.specs.Annotations.{Annotation, annotation, plain, unknown, string, enum, json, bson, uuid, float16, date, interval, nested, decimal, integer, time, timestamp}
@@ -25,9 +25,9 @@ unit_of Micros = Microsecond
 unit_of Nanos = Nanosecond
 
 -- a time that is adjusted to UTC has that zone, a local one has none
-abbrev pub zone_by : Bool → Zone
-zone_by true = Utc
-zone_by false = Absent
+abbrev pub zone_by : Bool → Option Zone
+zone_by true = Some Utc
+zone_by false = None
 
 -- an integer of 8, 16 or 32 bits on INT32, of 64 on INT64
 abbrev pub int_on_32 : ℤ → Bool → Answer
@@ -43,8 +43,7 @@ int_on_64 (negsuc n) s = None
 -- a time of milliseconds on INT32, of smaller units on INT64
 abbrev pub time_on_32 : ParquetUnit → Answer
 time_on_32 Millis = Some (a.Time32 Millisecond)
-time_on_32 Micros = None
-time_on_32 Nanos = None
+time_on_32 u = None
 
 abbrev pub time_on_64 : ParquetUnit → Answer
 time_on_64 Millis = None
@@ -56,11 +55,19 @@ abbrev pub tellable : ℤ → ℤ → Bool
 tellable scale precision =
     int_le (negsuc 127) scale && int_le scale (pos 127) && int_le (pos 0) precision && int_le precision (pos 255)
 
+-- a decimal's precision and scale, as Arrow keeps them
+abbrev pub decimal_parts : ℤ → ℤ → Option (ℕ × ℤ)
+decimal_parts s p = cond (tellable s p) (Some (digits p, s)) None
+
+-- a decimal of one width
+abbrev pub decimal_by : (ℕ → ℤ → ArrowType) → ℤ → ℤ → Answer
+decimal_by width s p = cond (tellable s p) (Some (width (digits p) s)) None
+
 abbrev pub decimal_128 : ℤ → ℤ → Answer
-decimal_128 s p = cond (tellable s p) (Some (a.Decimal128 (digits p) s)) None
+decimal_128 = decimal_by a.Decimal128
 
 abbrev pub decimal_256 : ℤ → ℤ → Answer
-decimal_256 s p = cond (tellable s p) (Some (a.Decimal256 (digits p) s)) None
+decimal_256 = decimal_by a.Decimal256
 
 -- on BYTE_ARRAY by the digits: 128 bits up to 38
 abbrev pub decimal_by_digits : ℤ → ℤ → Answer
@@ -104,7 +111,7 @@ abbrev pub column : PhysicalType → Answer × Answer × Answer × Answer → An
 column p.Boolean w = Some a.Boolean
 column p.Int32 w = w.0
 column p.Int64 w = w.1
-column p.Int96 w = Some (a.Timestamp Nanosecond Absent)
+column p.Int96 w = Some (a.Timestamp Nanosecond None)
 column p.Float w = Some a.Float32
 column p.Double w = Some a.Float64
 column p.ByteArray w = w.2
@@ -112,21 +119,8 @@ column p.FixedLenByteArray w = w.3
 
 -- on any physical type a leaf annotated as unknown is null
 abbrev pub known : Annotation → Answer → Answer
-known plain t = t
 known unknown t = Some a.Null
-known string t = t
-known enum t = t
-known json t = t
-known bson t = t
-known uuid t = t
-known float16 t = t
-known date t = t
-known interval t = t
-known nested t = t
-known (decimal s p) t = t
-known (integer w s) t = t
-known (time u) t = t
-known (timestamp z u) t = t
+known x t = t
 
 -- the type of a leaf that has no hint, if it has one
 abbrev pub leaf_type : Leaf → Answer

@@ -14,7 +14,7 @@ pub struct HintRow {
     pub name: TextPlace,
     pub data_type: ArrowType,
     pub nullable: bool,
-    // 0 for none
+    // a number of its writer's, 0 for none: so those who lay out hint rows give it
     pub metadata: u32,
     // the rows of its subtree, itself counted
     pub size: usize,
@@ -46,7 +46,8 @@ pub fn check_hints(rows: &[HintRow], text: &[u8]) -> bool
     is_shallow(rows, 0, rows.len(), 129) && keeps_hints(rows, text.len())
 }
 
-// Whether the rows from one place to another, which are whole trees, lie at most so many one above another.
+// Whether the rows from one place to another, which are whole trees, lie at most so many one above another. It goes by
+// the sizes, as no item of the slice is a tree: `at` leads from each tree to the next.
 fn is_shallow(rows: &[HintRow], from: usize, end: usize, levels: u8) -> bool
     requires { (from ≤ end) × (end ≤ length rows.now) }
     ensures { (f : Forest HintRow) → Lies rows.now from f → from + count f ≡ end → result ≡ shallow levels f }
@@ -68,13 +69,8 @@ fn is_shallow(rows: &[HintRow], from: usize, end: usize, levels: u8) -> bool
 fn keeps_hints(rows: &[HintRow], text_length: usize) -> bool
     ensures { (f : Forest HintRow) → Lists hint_span f rows.now → Decides result (HintsKept text_length f rows.now) }
 {
-    for i in 0..rows.len() {
-        let children = FlatTree::new(rows).count_children(i);
-        if !keeps_hint(rows[i], children, text_length) {
-            return false;
-        }
-    }
-    true
+    let tree = FlatTree::new(rows);
+    rows.iter().enumerate().all(|(i, row)| keeps_hint(*row, tree.count_children(i), text_length))
 }
 
 // What a row with so many children has to keep.
@@ -86,14 +82,14 @@ fn keeps_hint(row: HintRow, children: usize, text_length: usize) -> bool
         && keeps_brood(row.data_type, children)
 }
 
-// A hint's zone is absent, or a place of at least one byte.
-fn keeps_zone(zone: Zone, text_length: usize) -> bool
+// A hint's zone, if it has one, is a place of at least one byte.
+fn keeps_zone(zone: Option<Zone>, text_length: usize) -> bool
     ensures { result ≡ zone_inside text_length zone }
 {
     match zone {
-        Zone::Absent => true,
-        Zone::Utc => false,
-        Zone::Text(place) => place.length >= 1 && place.lies_inside(text_length),
+        None => true,
+        Some(Zone::Utc) => false,
+        Some(Zone::Text(place)) => place.length >= 1 && place.lies_inside(text_length),
     }
 }
 

@@ -1,7 +1,7 @@
 // The Arrow type of a leaf.
 ghost use Rattle.std.specs.Prelude.{◌≡◌, drop};
-ghost use Rattle.arrow.specs.Table.{decimal_128, decimal_256, decimal_by_digits, decimal_by_length, row_of, leaf_type};
-ghost use Rattle.arrow.specs.Hints.{zoneless, is_dictionary, told, only_child, plain_hint, kept, hinted};
+ghost use Rattle.arrow.specs.Table.{decimal_parts, decimal_128, decimal_by_digits, decimal_by_length, row_of, leaf_type};
+ghost use Rattle.arrow.specs.Hints.{is_dictionary, told, only_child, plain_hint, kept, hinted};
 ghost use Rattle.arrow.specs.Convert.{unit_fixed, converted_leaf, answered};
 ghost use Rattle.arrow.specs.Laws.{LeafLaws};
 
@@ -41,7 +41,7 @@ pub fn leaf_laws()
 fn is_unit_fixed(physical: PhysicalType) -> bool
     ensures { result ≡ unit_fixed physical }
 {
-    matches!(physical, PhysicalType::Int64)
+    physical == PhysicalType::Int64
 }
 
 // What the hint at a row makes of the leaf's own type, so that the data come back as they were written. `unit_fixed`: an
@@ -55,24 +55,21 @@ fn apply_hint(
 ) -> ArrowType
     ensures { result ≡ hinted unit_fixed text.now parquet row (drop row hints.now) }
 {
-    if row >= hints.len() {
+    let Some(&hint) = hints.get(row) else {
         return parquet;
-    }
-    let hint = hints[row];
+    };
     if !is_dictionary(hint.data_type) {
         return plain_hint(unit_fixed, parquet, hint.data_type);
     }
     let below = row + 1;
-    if below >= hints.len() {
-        return parquet;
+    match hints.get(below) {
+        // the value type is tried as the hint
+        Some(&child) if is_only_child(hint, child) => {
+            let inner = apply_hint(unit_fixed, parquet, hints, text, below);
+            keep_dictionary(row, type_told(child, below), inner, text)
+        }
+        _ => parquet,
     }
-    let child = hints[below];
-    if !is_only_child(hint, child) {
-        return parquet;
-    }
-    // the value type is tried as the hint
-    let inner = apply_hint(unit_fixed, parquet, hints, text, below);
-    keep_dictionary(row, type_told(child, below), inner, text)
 }
 
 fn is_dictionary(data_type: ArrowType) -> bool
@@ -92,10 +89,9 @@ fn is_only_child(hint: HintRow, child: HintRow) -> bool
 fn type_told(hint: HintRow, row: usize) -> ArrowType
     ensures { result ≡ told row hint }
 {
-    if is_dictionary(hint.data_type) {
-        ArrowType::Dictionary(row)
-    } else {
-        hint.data_type
+    match hint.data_type {
+        ArrowType::Dictionary(_) => ArrowType::Dictionary(row),
+        data_type => data_type,
     }
 }
 
@@ -118,17 +114,15 @@ fn plain_hint(unit_fixed: bool, parquet: ArrowType, hint: ArrowType) -> ArrowTyp
         // not all units have an annotation
         (ArrowType::Int32 | ArrowType::Int64, ArrowType::Timestamp(_, _)) => hint,
         (ArrowType::Int32, ArrowType::Time32(_)) => hint,
-        (ArrowType::Int64, ArrowType::Time64(_)) => hint,
-        (ArrowType::Int64, ArrowType::Duration(_)) => hint,
+        (ArrowType::Int64, ArrowType::Time64(_) | ArrowType::Duration(_)) => hint,
         // Date64 has no annotation
-        (ArrowType::Int64, ArrowType::Date64) => hint,
-        (ArrowType::Date32, ArrowType::Date64) => hint,
+        (ArrowType::Int64 | ArrowType::Date32, ArrowType::Date64) => hint,
         // a time of the same unit may have another zone
-        (ArrowType::Timestamp(p, _), ArrowType::Timestamp(h, zone)) if p == h && !is_absent(zone) =>
+        (ArrowType::Timestamp(p, _), ArrowType::Timestamp(h, zone)) if p == h && zone.is_some() =>
             hint,
         // an INT96 has no unit of its own: another one holds a longer range of dates
         (
-            ArrowType::Timestamp(TimeUnit::Nanosecond, Zone::Absent),
+            ArrowType::Timestamp(TimeUnit::Nanosecond, None),
             ArrowType::Timestamp(
                 TimeUnit::Second | TimeUnit::Millisecond | TimeUnit::Microsecond,
                 _,
@@ -138,9 +132,7 @@ fn plain_hint(unit_fixed: bool, parquet: ArrowType, hint: ArrowType) -> ArrowTyp
         (ArrowType::Utf8, ArrowType::LargeUtf8) => hint,
         (ArrowType::Binary, ArrowType::LargeBinary) => hint,
         // read as text
-        (ArrowType::Binary, ArrowType::Utf8) => hint,
-        (ArrowType::Binary, ArrowType::LargeUtf8) => hint,
-        (ArrowType::Binary, ArrowType::Utf8View) => hint,
+        (ArrowType::Binary, ArrowType::Utf8 | ArrowType::LargeUtf8 | ArrowType::Utf8View) => hint,
         // views
         (ArrowType::Utf8, ArrowType::Utf8View) => hint,
         (ArrowType::Binary, ArrowType::BinaryView) => hint,
@@ -151,12 +143,6 @@ fn plain_hint(unit_fixed: bool, parquet: ArrowType, hint: ArrowType) -> ArrowTyp
         (ArrowType::Decimal128(_, s), ArrowType::Decimal256(_, t)) if s == t => hint,
         _ => parquet,
     }
-}
-
-fn is_absent(zone: Zone) -> bool
-    ensures { result ≡ zoneless zone }
-{
-    matches!(zone, Zone::Absent)
 }
 
 // The type of a leaf that has no hint; none where its annotation says nothing of such a leaf.
@@ -170,7 +156,7 @@ fn from_parquet(leaf: &Leaf) -> Option<ArrowType>
             PhysicalType::Boolean => Some(ArrowType::Boolean),
             PhysicalType::Int32 => from_int32(leaf),
             PhysicalType::Int64 => from_int64(leaf),
-            PhysicalType::Int96 => Some(ArrowType::Timestamp(TimeUnit::Nanosecond, Zone::Absent)),
+            PhysicalType::Int96 => Some(ArrowType::Timestamp(TimeUnit::Nanosecond, None)),
             PhysicalType::Float => Some(ArrowType::Float32),
             PhysicalType::Double => Some(ArrowType::Float64),
             PhysicalType::ByteArray => from_byte_array(leaf),
@@ -179,45 +165,42 @@ fn from_parquet(leaf: &Leaf) -> Option<ArrowType>
     }
 }
 
-fn decimal_type(scale: i32, precision: i32) -> Option<ArrowType>
-    ensures { result ≡ decimal_by_digits scale precision }
+// A decimal's precision and scale, as Arrow keeps them.
+fn decimal_parts(scale: i32, precision: i32) -> Option<(u8, i8)>
+    ensures { result ≡ decimal_parts scale precision }
 {
-    if precision <= 38 {
-        decimal_128_type(scale, precision)
-    } else {
-        decimal_256_type(scale, precision)
-    }
+    let precision = u8::try_from(precision).ok()?;
+    let scale = i8::try_from(scale).ok()?;
+    Some((precision, scale))
 }
 
-fn decimal_128_type(scale: i32, precision: i32) -> Option<ArrowType>
+// On INT32 and INT64 a decimal has 128 bits.
+fn decimal_of_int(scale: i32, precision: i32) -> Option<ArrowType>
     ensures { result ≡ decimal_128 scale precision }
 {
-    if scale < -128 || scale > 127 || precision < 0 || precision > 255 {
-        return None;
-    }
-    Some(ArrowType::Decimal128(precision as u8, scale as i8))
+    let (precision, scale) = decimal_parts(scale, precision)?;
+    Some(ArrowType::Decimal128(precision, scale))
 }
 
-fn decimal_256_type(scale: i32, precision: i32) -> Option<ArrowType>
-    ensures { result ≡ decimal_256 scale precision }
+fn decimal_by_digits(scale: i32, precision: i32) -> Option<ArrowType>
+    ensures { result ≡ decimal_by_digits scale precision }
 {
-    if scale < -128 || scale > 127 || precision < 0 || precision > 255 {
-        return None;
+    let (digits, scale) = decimal_parts(scale, precision)?;
+    match digits {
+        0..=38 => Some(ArrowType::Decimal128(digits, scale)),
+        _ => Some(ArrowType::Decimal256(digits, scale)),
     }
-    Some(ArrowType::Decimal256(precision as u8, scale as i8))
 }
 
 // Lengths from 1 to 16 give Decimal128, from 17 to 32 Decimal256.
-fn decimal_of_length(type_length: i32, scale: i32, precision: i32) -> Option<ArrowType>
+fn decimal_by_length(type_length: i32, scale: i32, precision: i32) -> Option<ArrowType>
     ensures { result ≡ decimal_by_length type_length scale precision }
 {
-    if type_length < 1 || type_length > 32 {
-        return None;
-    }
-    if type_length <= 16 {
-        decimal_128_type(scale, precision)
-    } else {
-        decimal_256_type(scale, precision)
+    let (digits, scale) = decimal_parts(scale, precision)?;
+    match type_length {
+        1..=16 => Some(ArrowType::Decimal128(digits, scale)),
+        17..=32 => Some(ArrowType::Decimal256(digits, scale)),
+        _ => None,
     }
 }
 
@@ -225,7 +208,7 @@ fn from_int32(leaf: &Leaf) -> Option<ArrowType>
     ensures { result ≡ (row_of leaf.now).0 }
 {
     match (leaf.logical, leaf.converted) {
-        (None, None) => Some(ArrowType::Int32),
+        (None, None | Some(ConvertedType::Int32)) => Some(ArrowType::Int32),
         (
             Some(
                 LogicalType::Integer {
@@ -243,21 +226,25 @@ fn from_int32(leaf: &Leaf) -> Option<ArrowType>
             (32, false) => Some(ArrowType::UInt32),
             _ => None,
         },
-        (Some(LogicalType::Decimal { scale, precision }), _) => decimal_128_type(scale, precision),
+        (Some(LogicalType::Decimal { scale, precision }), _) => decimal_of_int(scale, precision),
         (Some(LogicalType::Date), _) => Some(ArrowType::Date32),
-        (Some(LogicalType::Time { unit, .. }), _) => match unit {
-            ParquetTimeUnit::Millis => Some(ArrowType::Time32(TimeUnit::Millisecond)),
-            _ => None,
-        },
+        (
+            Some(
+                LogicalType::Time {
+                    unit: ParquetTimeUnit::Millis,
+                    ..
+                },
+            ),
+            _,
+        ) => Some(ArrowType::Time32(TimeUnit::Millisecond)),
         (None, Some(ConvertedType::UInt8)) => Some(ArrowType::UInt8),
         (None, Some(ConvertedType::UInt16)) => Some(ArrowType::UInt16),
         (None, Some(ConvertedType::UInt32)) => Some(ArrowType::UInt32),
         (None, Some(ConvertedType::Int8)) => Some(ArrowType::Int8),
         (None, Some(ConvertedType::Int16)) => Some(ArrowType::Int16),
-        (None, Some(ConvertedType::Int32)) => Some(ArrowType::Int32),
         (None, Some(ConvertedType::Date)) => Some(ArrowType::Date32),
         (None, Some(ConvertedType::TimeMillis)) => Some(ArrowType::Time32(TimeUnit::Millisecond)),
-        (None, Some(ConvertedType::Decimal)) => decimal_128_type(leaf.scale, leaf.precision),
+        (None, Some(ConvertedType::Decimal)) => decimal_of_int(leaf.scale, leaf.precision),
         _ => None,
     }
 }
@@ -266,7 +253,7 @@ fn from_int64(leaf: &Leaf) -> Option<ArrowType>
     ensures { result ≡ (row_of leaf.now).1 }
 {
     match (leaf.logical, leaf.converted) {
-        (None, None) => Some(ArrowType::Int64),
+        (None, None | Some(ConvertedType::Int64)) => Some(ArrowType::Int64),
         (
             Some(
                 LogicalType::Integer {
@@ -279,11 +266,15 @@ fn from_int64(leaf: &Leaf) -> Option<ArrowType>
             true => Some(ArrowType::Int64),
             false => Some(ArrowType::UInt64),
         },
-        (Some(LogicalType::Time { unit, .. }), _) => match unit {
-            ParquetTimeUnit::Millis => None,
-            ParquetTimeUnit::Micros => Some(ArrowType::Time64(TimeUnit::Microsecond)),
-            ParquetTimeUnit::Nanos => Some(ArrowType::Time64(TimeUnit::Nanosecond)),
-        },
+        (
+            Some(
+                LogicalType::Time {
+                    unit: unit @ (ParquetTimeUnit::Micros | ParquetTimeUnit::Nanos),
+                    ..
+                },
+            ),
+            _,
+        ) => Some(ArrowType::Time64(unit.into())),
         (
             Some(
                 LogicalType::Timestamp {
@@ -292,29 +283,17 @@ fn from_int64(leaf: &Leaf) -> Option<ArrowType>
                 },
             ),
             _,
-        ) => Some(ArrowType::Timestamp(
-            match unit {
-                ParquetTimeUnit::Millis => TimeUnit::Millisecond,
-                ParquetTimeUnit::Micros => TimeUnit::Microsecond,
-                ParquetTimeUnit::Nanos => TimeUnit::Nanosecond,
-            },
-            if is_adjusted_to_utc {
-                Zone::Utc
-            } else {
-                Zone::Absent
-            },
-        )),
-        (None, Some(ConvertedType::Int64)) => Some(ArrowType::Int64),
+        ) => Some(ArrowType::Timestamp(unit.into(), is_adjusted_to_utc.then_some(Zone::Utc))),
         (None, Some(ConvertedType::UInt64)) => Some(ArrowType::UInt64),
         (None, Some(ConvertedType::TimeMicros)) => Some(ArrowType::Time64(TimeUnit::Microsecond)),
         (None, Some(ConvertedType::TimestampMillis)) => {
-            Some(ArrowType::Timestamp(TimeUnit::Millisecond, Zone::Utc))
+            Some(ArrowType::Timestamp(TimeUnit::Millisecond, Some(Zone::Utc)))
         }
         (None, Some(ConvertedType::TimestampMicros)) => {
-            Some(ArrowType::Timestamp(TimeUnit::Microsecond, Zone::Utc))
+            Some(ArrowType::Timestamp(TimeUnit::Microsecond, Some(Zone::Utc)))
         }
-        (Some(LogicalType::Decimal { scale, precision }), _) => decimal_128_type(scale, precision),
-        (None, Some(ConvertedType::Decimal)) => decimal_128_type(leaf.scale, leaf.precision),
+        (Some(LogicalType::Decimal { scale, precision }), _) => decimal_of_int(scale, precision),
+        (None, Some(ConvertedType::Decimal)) => decimal_of_int(leaf.scale, leaf.precision),
         _ => None,
     }
 }
@@ -323,17 +302,14 @@ fn from_byte_array(leaf: &Leaf) -> Option<ArrowType>
     ensures { result ≡ (row_of leaf.now).2 }
 {
     match (leaf.logical, leaf.converted) {
-        (Some(LogicalType::String), _) => Some(ArrowType::Utf8),
-        (Some(LogicalType::Json), _) => Some(ArrowType::Utf8),
-        (Some(LogicalType::Bson), _) => Some(ArrowType::Binary),
-        (Some(LogicalType::Enum), _) => Some(ArrowType::Binary),
-        (None, None) => Some(ArrowType::Binary),
-        (None, Some(ConvertedType::Json)) => Some(ArrowType::Utf8),
-        (None, Some(ConvertedType::Bson)) => Some(ArrowType::Binary),
-        (None, Some(ConvertedType::Enum)) => Some(ArrowType::Binary),
-        (None, Some(ConvertedType::Utf8)) => Some(ArrowType::Utf8),
-        (Some(LogicalType::Decimal { scale, precision }), _) => decimal_type(scale, precision),
-        (None, Some(ConvertedType::Decimal)) => decimal_type(leaf.scale, leaf.precision),
+        (Some(LogicalType::String | LogicalType::Json), _) => Some(ArrowType::Utf8),
+        (Some(LogicalType::Bson | LogicalType::Enum), _) => Some(ArrowType::Binary),
+        (None, Some(ConvertedType::Utf8 | ConvertedType::Json)) => Some(ArrowType::Utf8),
+        (None, None | Some(ConvertedType::Bson | ConvertedType::Enum)) => {
+            Some(ArrowType::Binary)
+        }
+        (Some(LogicalType::Decimal { scale, precision }), _) => decimal_by_digits(scale, precision),
+        (None, Some(ConvertedType::Decimal)) => decimal_by_digits(leaf.scale, leaf.precision),
         _ => None,
     }
 }
@@ -343,26 +319,16 @@ fn from_fixed_len_byte_array(leaf: &Leaf) -> Option<ArrowType>
 {
     match (leaf.logical, leaf.converted) {
         (Some(LogicalType::Decimal { scale, precision }), _) => {
-            decimal_of_length(leaf.type_length, scale, precision)
+            decimal_by_length(leaf.type_length, scale, precision)
         }
         (None, Some(ConvertedType::Decimal)) => {
-            decimal_of_length(leaf.type_length, leaf.scale, leaf.precision)
+            decimal_by_length(leaf.type_length, leaf.scale, leaf.precision)
         }
         // nothing tells the unit of an interval: a hint may
         (None, Some(ConvertedType::Interval)) => {
-            if leaf.type_length == 12 {
-                Some(ArrowType::Interval(IntervalUnit::DayTime))
-            } else {
-                None
-            }
+            (leaf.type_length == 12).then_some(ArrowType::Interval(IntervalUnit::DayTime))
         }
-        (Some(LogicalType::Float16), _) => {
-            if leaf.type_length == 2 {
-                Some(ArrowType::Float16)
-            } else {
-                None
-            }
-        }
+        (Some(LogicalType::Float16), _) => (leaf.type_length == 2).then_some(ArrowType::Float16),
         _ => Some(ArrowType::FixedSizeBinary(leaf.type_length)),
     }
 }

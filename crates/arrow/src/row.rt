@@ -9,7 +9,6 @@ use tree::Row;
 // Where a field's metadata comes from.
 #[derive(Clone, Copy, PartialEq, Eq, Debug)]
 pub enum Metadata {
-    None,
     // the hint's number
     Hint(u32),
     FieldId(i32),
@@ -21,7 +20,7 @@ pub struct Field {
     // where the name lies in the name memory
     pub name: Place<u8>,
     pub nullable: bool,
-    pub metadata: Metadata,
+    pub metadata: Option<Metadata>,
 }
 
 // What a leaf row adds.
@@ -35,6 +34,7 @@ pub struct LeafNumbers {
 #[derive(Clone, Copy)]
 pub struct Entries {
     pub name: Place<u8>,
+    // 0 for none, as in the hint row that gives it
     pub metadata: u32,
 }
 
@@ -65,7 +65,7 @@ impl ResultRow {
                 length: 0,
             },
             nullable: false,
-            metadata: Metadata::None,
+            metadata: None,
         },
         leaf: None,
         entries: None,

@@ -3,6 +3,7 @@ use crate::{ArrowType as A, *};
 use schema::{
     ConvertedType as C, Leaf, LogicalType as L, PhysicalType as P, Refusal, TimeUnit as ParquetUnit,
 };
+use std::array;
 
 const BYTES: P = P::ByteArray;
 
@@ -10,15 +11,15 @@ const FIXED: P = P::FixedLenByteArray;
 
 const TEXT: [u8; 12] = *b"UTCCETUTCabc";
 
-const CET: Zone = Zone::Text(TextPlace {
+const CET: Option<Zone> = Some(Zone::Text(TextPlace {
     start: 3,
     length: 3,
-});
+}));
 
-const UTC: Zone = Zone::Text(TextPlace {
+const UTC: Option<Zone> = Some(Zone::Text(TextPlace {
     start: 6,
     length: 3,
-});
+}));
 
 const INT_8: L = L::Integer {
     bit_width: 8,
@@ -166,23 +167,23 @@ const TIME64: A = A::Time64(TimeUnit::Microsecond);
 
 const DAY_TIME: A = A::Interval(IntervalUnit::DayTime);
 
-const SECOND: A = A::Timestamp(TimeUnit::Second, Zone::Absent);
+const SECOND: A = A::Timestamp(TimeUnit::Second, None);
 
-const MILLI: A = A::Timestamp(TimeUnit::Millisecond, Zone::Absent);
+const MILLI: A = A::Timestamp(TimeUnit::Millisecond, None);
 
-const MILLI_UTC: A = A::Timestamp(TimeUnit::Millisecond, Zone::Utc);
+const MILLI_UTC: A = A::Timestamp(TimeUnit::Millisecond, Some(Zone::Utc));
 
 const MILLI_CET: A = A::Timestamp(TimeUnit::Millisecond, CET);
 
-const MICRO: A = A::Timestamp(TimeUnit::Microsecond, Zone::Absent);
+const MICRO: A = A::Timestamp(TimeUnit::Microsecond, None);
 
-const MICRO_UTC: A = A::Timestamp(TimeUnit::Microsecond, Zone::Utc);
+const MICRO_UTC: A = A::Timestamp(TimeUnit::Microsecond, Some(Zone::Utc));
 
 const MICRO_CET: A = A::Timestamp(TimeUnit::Microsecond, CET);
 
-const NANO: A = A::Timestamp(TimeUnit::Nanosecond, Zone::Absent);
+const NANO: A = A::Timestamp(TimeUnit::Nanosecond, None);
 
-const NANO_UTC: A = A::Timestamp(TimeUnit::Nanosecond, Zone::Utc);
+const NANO_UTC: A = A::Timestamp(TimeUnit::Nanosecond, Some(Zone::Utc));
 
 const NANO_CET: A = A::Timestamp(TimeUnit::Nanosecond, CET);
 
@@ -630,22 +631,16 @@ fn hint_of(data_type: A, size: usize) -> HintRow {
 }
 
 fn hints_of(types: [A; 3], sizes: [usize; 3]) -> [HintRow; 3] {
-    [
-        hint_of(types[0], sizes[0]),
-        hint_of(types[1], sizes[1]),
-        hint_of(types[2], sizes[2]),
-    ]
+    array::from_fn(|i| hint_of(types[i], sizes[i]))
 }
 
 #[test]
 fn types_by_annotation(rt: HostRuntime) {
-    for case in BY_LOGICAL.iter() {
-        let (physical, length, logical, own) = *case;
+    for &(physical, length, logical, own) in BY_LOGICAL.iter() {
         let leaf = leaf(physical, length, Some(logical), Some(C::Utf8));
         assert!(rt; is(convert_primitive(&leaf, 3, &[], &TEXT, None), own));
     }
-    for case in BY_CONVERTED.iter() {
-        let (physical, length, converted, own) = *case;
+    for &(physical, length, converted, own) in BY_CONVERTED.iter() {
         let leaf = leaf(physical, length, None, converted);
         assert!(rt; is(convert_primitive(&leaf, 3, &[], &TEXT, None), own));
     }
@@ -660,8 +655,7 @@ fn types_by_annotation(rt: HostRuntime) {
 
 #[test]
 fn types_under_hints(rt: HostRuntime) {
-    for case in HINTED_LOGICAL.iter() {
-        let (physical, logical, hint, own) = *case;
+    for &(physical, logical, hint, own) in HINTED_LOGICAL.iter() {
         let leaf = leaf(physical, 12, Some(logical), None);
         let hints = [hint_of(hint, 1)];
         assert!(rt;
@@ -671,8 +665,7 @@ fn types_under_hints(rt: HostRuntime) {
             )
         );
     }
-    for case in HINTED_CONVERTED.iter() {
-        let (physical, converted, hint, own) = *case;
+    for &(physical, converted, hint, own) in HINTED_CONVERTED.iter() {
         let leaf = leaf(physical, 12, None, converted);
         let hints = [hint_of(hint, 1)];
         assert!(rt;
@@ -686,8 +679,7 @@ fn types_under_hints(rt: HostRuntime) {
 
 #[test]
 fn dictionaries_and_zones(rt: HostRuntime) {
-    for case in DICTIONARIES.iter() {
-        let (physical, logical, types, sizes, own) = *case;
+    for &(physical, logical, types, sizes, own) in DICTIONARIES.iter() {
         let leaf = leaf(physical, 0, Some(logical), None);
         let hints = hints_of(types, sizes);
         assert!(rt;
@@ -723,7 +715,7 @@ fn accepts_first(rows: &[HintRow], count: usize) -> bool {
     count <= rows.len() && check_hints(&rows[..count], &TEXT)
 }
 
-fn accepts_place(name: TextPlace, zone: Zone) -> bool {
+fn accepts_place(name: TextPlace, zone: Option<Zone>) -> bool {
     let data_type = A::Timestamp(TimeUnit::Second, zone);
     check_hints(
         &[HintRow {
@@ -740,30 +732,27 @@ fn accepts_place(name: TextPlace, zone: Zone) -> bool {
 // A list of lists, down to one row with nothing below.
 fn chain(rows: &mut [HintRow]) {
     let n = rows.len();
-    for i in 0..n {
-        rows[i] = hint_of(if i + 1 < n { A::List } else { A::Null }, n - i);
+    for (i, row) in rows.iter_mut().enumerate() {
+        *row = hint_of(if i + 1 < n { A::List } else { A::Null }, n - i);
     }
 }
 
 #[test]
 fn hint_rows(rt: HostRuntime) {
-    for case in SHAPES.iter() {
-        let (types, sizes, count, kept) = *case;
+    for &(types, sizes, count, kept) in SHAPES.iter() {
         assert!(rt; accepts_first(&hints_of(types, sizes), count) == kept);
     }
     let none = TextPlace {
         start: 0,
         length: 0,
     };
-    for case in NAMES.iter() {
-        let (start, length, kept) = *case;
-        assert!(rt; accepts_place(TextPlace { start, length }, Zone::Absent) == kept);
+    for &(start, length, kept) in NAMES.iter() {
+        assert!(rt; accepts_place(TextPlace { start, length }, None) == kept);
     }
-    for case in ZONES.iter() {
-        let (start, length, kept) = *case;
-        assert!(rt; accepts_place(none, Zone::Text(TextPlace { start, length })) == kept);
+    for &(start, length, kept) in ZONES.iter() {
+        assert!(rt; accepts_place(none, Some(Zone::Text(TextPlace { start, length }))) == kept);
     }
-    assert!(rt; !accepts_place(none, Zone::Utc));
+    assert!(rt; !accepts_place(none, Some(Zone::Utc)));
     let mut deepest = [hint_of(A::Null, 1); 129];
     chain(&mut deepest);
     assert!(rt; check_hints(&deepest, &TEXT));

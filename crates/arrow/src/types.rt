@@ -1,4 +1,8 @@
 // Arrow types.
+ghost use Rattle.std.specs.Prelude.{◌≡◌};
+ghost use Rattle.arrow.specs.Table.{unit_of};
+
+use schema::TimeUnit as ParquetTimeUnit;
 
 use schema::Place;
 
@@ -8,6 +12,18 @@ pub enum TimeUnit {
     Millisecond,
     Microsecond,
     Nanosecond,
+}
+
+impl From<ParquetTimeUnit> for TimeUnit {
+    ghost from_gives = { λ unit r. r ≡ unit_of unit };
+
+    fn from(unit: ParquetTimeUnit) -> TimeUnit {
+        match unit {
+            ParquetTimeUnit::Millis => TimeUnit::Millisecond,
+            ParquetTimeUnit::Micros => TimeUnit::Microsecond,
+            ParquetTimeUnit::Nanos => TimeUnit::Nanosecond,
+        }
+    }
 }
 
 #[derive(Clone, Copy, PartialEq, Eq, Debug)]
@@ -20,15 +36,15 @@ pub enum IntervalUnit {
 // Where bytes lie in the hint text.
 pub type TextPlace = Place<usize>;
 
-// A timestamp's zone. A hint's is absent or a place of the hint text.
-#[derive(Clone, Copy)]
+// A timestamp's zone. A hint's is a place of the hint text.
+#[derive(Clone, Copy, PartialEq, Eq, Debug)]
 pub enum Zone {
-    Absent,
     Utc,
     Text(TextPlace),
 }
 
-#[derive(Clone, Copy)]
+// By `==` two zones in the hint text are the same only at the same place: `same_type` compares them as they are spelled.
+#[derive(Clone, Copy, PartialEq, Eq, Debug)]
 pub enum ArrowType {
     Null,
     Boolean,
@@ -54,7 +70,7 @@ pub enum ArrowType {
     Date64,
     Time32(TimeUnit),
     Time64(TimeUnit),
-    Timestamp(TimeUnit, Zone),
+    Timestamp(TimeUnit, Option<Zone>),
     Duration(TimeUnit),
     Interval(IntervalUnit),
     // precision and scale

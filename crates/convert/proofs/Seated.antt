@@ -91,7 +91,7 @@ list_kind as_middle f = hinted_kind f
 list_kind as_entries f = refl
 
 -- a row with no entries
-abbrev pub mk : RowKind → Levels → Bool → List ℕ → Bool → ArrowType → Metadata → Full
+abbrev pub mk : RowKind → Levels → Bool → List ℕ → Bool → ArrowType → Option Metadata → Full
 mk k v null name field_null type metadata = record {
   shaped = record { row = record { kind = k; levels = v; nullable = null }; name = name; field_null = field_null; entries = [] };
   type = type;
@@ -99,7 +99,7 @@ mk k v null name field_null type metadata = record {
   entries_metadata = 0;
 }
 
-pub full_is : {k k' : RowKind} {v : Levels} {null : Bool} {n n' : List ℕ} {f f' : Bool} {t t' : ArrowType} {m m' : Metadata}
+pub full_is : {k k' : RowKind} {v : Levels} {null : Bool} {n n' : List ℕ} {f f' : Bool} {t t' : ArrowType} {m m' : Option Metadata}
     → k ≡ k' → n ≡ n' → f ≡ f' → t ≡ t' → m ≡ m' → mk k v null n f t m ≡ mk k' v null n' f' t' m'
 full_is a b c d e = cc
 

@@ -8,7 +8,6 @@ use Rattle.arrow.specs.declared.types.ArrowType.{ArrowType}
 use Rattle.arrow.specs.declared.row.Field.{Field}
 use Rattle.arrow.specs.declared.row.LeafNumbers.{LeafNumbers}
 use Rattle.arrow.specs.declared.row.Metadata.{Metadata}
-use Rattle.arrow.specs.declared.row.Metadata.TheVariants as m
 use Rattle.arrow.specs.declared.row.ResultRow.{ResultRow}
 use Rattle.schema.specs.declared.element.Element.{Element}
 use Rattle.arrow.specs.declared.types.ArrowType.TheVariants as a
@@ -27,8 +26,8 @@ use Rattle.convert.specs.Outcome.{Outcome, within}
 abbrev pub outer_field : Seat → Bool → Field
 outer_field c null = record { name = c.name; nullable = not c.key && null; metadata = c.metadata }
 
-abbrev pub inner_of : Bool → Forest Hint → Metadata
-inner_of true hs = m.None
+abbrev pub inner_of : Bool → Forest Hint → Option Metadata
+inner_of true hs = None
 inner_of false hs = metadata_of (sole (inside hs)) None
 
 abbrev pub own_field : Seat → Forest Hint → Place ℕ → Repetition → Field

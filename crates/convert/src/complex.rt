@@ -29,7 +29,7 @@ use crate::hints::{
 };
 use crate::reading::{count_children, is_element, is_optional, role_at};
 use crate::rows::{close, close_struct, head_of, is_chosen, is_wrapped, raise, write_leaf};
-use arrow::{ArrowType, Entries, Field, HintRow, Metadata, ResultRow, convert_primitive};
+use arrow::{ArrowType, Entries, Field, HintRow, ResultRow, convert_primitive};
 use schema::{Annotation, Element, Kind, Leaf, Place, Refusal};
 use tree::FlatTree;
 use walk::{Levels, Role};
@@ -435,7 +435,7 @@ fn root_seat(source: Source) -> Seat
             length: 0,
         },
         key: false,
-        metadata: Metadata::None,
+        metadata: None,
         list: list_kind(source.hints, None),
         element: false,
     }

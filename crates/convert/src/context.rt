@@ -32,7 +32,7 @@ pub(crate) struct Seat {
     // the field in which its outermost row stands: name, whether it is a key's, metadata
     pub(crate) name: Place<u8>,
     pub(crate) key: bool,
-    pub(crate) metadata: Metadata,
+    pub(crate) metadata: Option<Metadata>,
     // the type of a list row of its own
     pub(crate) list: ArrowType,
     // whether it is the repeated child of a group that is read as a list, and the list's element

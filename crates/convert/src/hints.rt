@@ -145,28 +145,25 @@ pub(crate) fn list_kind(hints: &[HintRow], hint: Option<usize>) -> ArrowType
 }
 
 // A hint's metadata number, 0 for none.
-fn by_number(number: u32) -> Metadata
+fn by_number(number: u32) -> Option<Metadata>
     ensures { result ≡ by_number number }
 {
-    if number == 0 {
-        Metadata::None
-    } else {
-        Metadata::Hint(number)
-    }
+    (number != 0).then_some(Metadata::Hint(number))
 }
 
-fn by_id(field_id: Option<i32>) -> Metadata
+fn by_id(field_id: Option<i32>) -> Option<Metadata>
     ensures { result ≡ by_id field_id }
 {
-    match field_id {
-        Some(id) => Metadata::FieldId(id),
-        None => Metadata::None,
-    }
+    field_id.map(Metadata::FieldId)
 }
 
 // A field has the hint's metadata number, or without a hint the field id.
 #[tactic(auto, using(crate::proofs::Handing::metadata_row, crate::proofs::Handing::metadata_none))]
-pub(crate) fn metadata_of(hints: &[HintRow], hint: Option<usize>, field_id: Option<i32>) -> Metadata
+pub(crate) fn metadata_of(
+    hints: &[HintRow],
+    hint: Option<usize>,
+    field_id: Option<i32>,
+) -> Option<Metadata>
     ensures { (bytes : List ℕ) (hs : Forest Hint) → Hinted hints.now bytes hint hs → result ≡ metadata_of hs field_id }
 {
     match hint_row(hints, hint) {

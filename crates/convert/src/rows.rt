@@ -80,11 +80,11 @@ fn outer_field(seat: Seat, nullable: bool) -> Field
 }
 
 // The metadata of the inner of an element's two rows.
-fn inner_metadata(hints: &[HintRow], seat: Seat) -> Metadata
+fn inner_metadata(hints: &[HintRow], seat: Seat) -> Option<Metadata>
     ensures { (bytes : List ℕ) (hs : Forest Hint) → Hinted hints.now bytes seat.hint hs → result ≡ inner_of seat.element hs }
 {
     if seat.element {
-        return Metadata::None;
+        return None;
     }
     metadata_of(hints, first_hint(hints, seat.hint), None)
 }

@@ -45,7 +45,7 @@ const USED: ResultRow = ResultRow {
             length: 1,
         },
         nullable: true,
-        metadata: Metadata::Hint(1),
+        metadata: Some(Metadata::Hint(1)),
     },
     leaf: None,
     entries: None,
@@ -182,7 +182,7 @@ fn is_empty(row: &ResultRow) -> bool {
     let no_numbers = row.rep_level == 0 && row.def_level == 0 && row.size == 0;
     let no_name = row.field.name.start == 0 && row.field.name.length == 0;
     let no_type = matches!(row.data_type, ArrowType::Null);
-    let no_metadata = matches!(row.field.metadata, Metadata::None);
+    let no_metadata = row.field.metadata.is_none();
     let no_more = row.leaf.is_none() && row.entries.is_none();
     no_numbers
         && no_name

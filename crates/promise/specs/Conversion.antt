@@ -12,7 +12,6 @@ use Rattle.columns.specs.Levels.{leaves_of}
 use Rattle.selection.specs.Sets.{below}
 use Rattle.arrow.specs.declared.hint.HintRow.{HintRow}
 use Rattle.arrow.specs.declared.row.ResultRow.{ResultRow}
-use Rattle.arrow.specs.declared.row.Metadata.TheVariants as m
 use Rattle.arrow.specs.declared.types.ArrowType.TheVariants as t
 use Rattle.arrow.specs.HintTrees.{IsHint}
 use Rattle.arrow.specs.Kinds.{hint_span}
@@ -69,7 +68,7 @@ empty_row = record {
   nullable = false;
   data_type = t.Null;
   size = 0;
-  field = record { name = record { start = 0; length = 0 }; nullable = false; metadata = m.None };
+  field = record { name = record { start = 0; length = 0 }; nullable = false; metadata = None };
   leaf = None;
   entries = None;
 }

@@ -78,7 +78,7 @@ fn of_one(kind: &str, argument: &str) -> Option<ArrowType> {
         "fixed_size_list" => Some(ArrowType::FixedSizeList(argument.parse::<i32>().ok()?)),
         "time32" => Some(ArrowType::Time32(unit(argument)?)),
         "time64" => Some(ArrowType::Time64(unit(argument)?)),
-        "timestamp" => Some(ArrowType::Timestamp(unit(argument)?, Zone::Absent)),
+        "timestamp" => Some(ArrowType::Timestamp(unit(argument)?, None)),
         "duration" => Some(ArrowType::Duration(unit(argument)?)),
         "interval" => Some(ArrowType::Interval(interval_unit(argument)?)),
         "map" => Some(ArrowType::Map(sorted(argument)?)),
@@ -191,13 +191,13 @@ impl fmt::Display for TypeWord<'_> {
             ArrowType::Time64(unit) => write!(f, "time64({})", unit_word(unit)),
             ArrowType::Duration(unit) => write!(f, "duration({})", unit_word(unit)),
             ArrowType::Interval(unit) => write!(f, "interval({})", interval_word(unit)),
-            ArrowType::Timestamp(unit, Zone::Absent) => write!(f, "timestamp({})", unit_word(unit)),
-            ArrowType::Timestamp(unit, Zone::Utc) => write!(
+            ArrowType::Timestamp(unit, None) => write!(f, "timestamp({})", unit_word(unit)),
+            ArrowType::Timestamp(unit, Some(Zone::Utc)) => write!(
                 f,
                 "timestamp({},UTC)",
                 unit_word(unit)
             ),
-            ArrowType::Timestamp(unit, Zone::Text(place)) => {
+            ArrowType::Timestamp(unit, Some(Zone::Text(place))) => {
                 write!(
                     f,
                     "timestamp({},{})",
@@ -265,7 +265,10 @@ impl Hints {
         let name = self.lay(name)?;
         let data_type = match data_type {
             HintType::Plain(data_type) => data_type,
-            HintType::Zoned(unit, zone) => ArrowType::Timestamp(unit, Zone::Text(self.lay(zone)?)),
+            HintType::Zoned(unit, zone) => ArrowType::Timestamp(
+                unit,
+                Some(Zone::Text(self.lay(zone)?)),
+            ),
         };
         self.rows.push(HintRow {
             name,

@@ -1,5 +1,5 @@
 -- Hints reach elements and fields are told as the laws say.
-use Rattle.std.proofs.Common.{◌≡◌, ℕ, zero, suc, Bool, true, false, not, ◌&&◌, [], Some, None, sym, refl, ap, ◌∙◌, subst, ap₂}
+use Rattle.std.proofs.Common.{◌≡◌, ℕ, zero, suc, Bool, true, false, not, ◌&&◌, [], Some, None, sym, refl, ap, ◌∙◌, subst, ap₂, Option}
 use Rattle.walk.proofs.Lists.{all_append}
 use Rattle.std.proofs.lemmas.Bool.{true≢false}
 use Rattle.std.proofs.lemmas.Option.{none-some}
@@ -20,7 +20,6 @@ use Rattle.walk.specs.Walk.{inner_metadata, metadata_of}
 use Rattle.walk.specs.declared.role.Role.{Role}
 use Rattle.tree.specs.Forest.{Forest, alone, listing}
 use Rattle.tree.specs.Forest.Forest.{bare, plant}
-use Rattle.arrow.specs.declared.row.Metadata.TheVariants as m
 
 -- ── A child of what is read and hinted ──
 
@@ -94,7 +93,7 @@ inner_own as_element hint e = cc
 inner_own as_middle hint e = cc
 inner_own as_entries hint e = cc
 
-inner_group : (t : Part) (hint : Forest Hint) → by_itself t ≡ false → inner_metadata t hint ≡ m.None
+inner_group : (t : Part) (hint : Forest Hint) → by_itself t ≡ false → inner_metadata t hint ≡ None
 inner_group as_root hint e = cc
 inner_group as_field hint e = cc
 inner_group as_key hint e = cc
@@ -187,8 +186,8 @@ fields_at n u h t g x below typing =
           let r = child_told n u h t g x below k y c in
           ap is_key r.part ∙ ap (λ (z : Role). is_key (part_after k (child_part z x.name below))) e ∙ key_first k;
       group = λ k y c e not_root row. of_part t k y c e not_root row;
-      inside_list = λ k y c e row. ap (λ (z : Metadata). record { name = y.of.name; nullable = false; metadata = z }) (inner_own y.part y.given.hint e);
-      itself = λ k y c e row. ap (λ (z : Metadata). record { name = y.of.name; nullable = false; metadata = z }) (inner_group y.part y.given.hint e);
+      inside_list = λ k y c e row. ap (λ (z : Option Metadata). record { name = y.of.name; nullable = false; metadata = z }) (inner_own y.part y.given.hint e);
+      itself = λ k y c e row. ap (λ (z : Option Metadata). record { name = y.of.name; nullable = false; metadata = z }) (inner_group y.part y.given.hint e);
     }
   where
     of_part : (t : Part) (k : ℕ) (y : Read) → Child (here n u h t g x below) k y → by_itself y.part ≡ false → (t ≡ as_root → ⊥)
@@ -225,6 +224,6 @@ pub fields_told : FieldsTold
 unfolding hinting reading
 fields_told typing hints t =
     record {
-      root = (record { root = refl; empty = λ row e. ap (λ (z : Bool). record { name = []; nullable = z; metadata = m.None }) e }, tt);
+      root = (record { root = refl; empty = λ row e. ap (λ (z : Bool). record { name = []; nullable = z; metadata = None }) e }, tt);
       others = everywhere (FieldsBelow typing) (λ n u h t g x below. fields_at n u h t g x below typing) false bare hints as_root nobody (numbered 0 0 (alone t));
     }

@@ -1,5 +1,5 @@
 -- Which hint reaches which element, and by which field its parent knows a row: read off one element with its children.
-use Rattle.std.specs.Prelude.{◌≡◌, ℕ, zero, suc, Bool, true, false, not, ◌&&◌, List, [], Some, None, ◌≢◌}
+use Rattle.std.specs.Prelude.{◌≡◌, ℕ, zero, suc, Bool, true, false, not, ◌&&◌, List, [], Some, None, Option, ◌≢◌}
 use Rattle.std.specs.List.{slice_get}
 use Rattle.arrow.specs.declared.row.Metadata.{Metadata}
 use Rattle.walk.specs.Faults.{Typing}
@@ -13,7 +13,6 @@ use Rattle.walk.specs.Shape.{Row}
 use Rattle.walk.specs.Walk.{Full, full_of, metadata_of}
 use Rattle.walk.specs.declared.role.Role.TheVariants.{Entries as entries, Listed as listed, Mapped as mapped, Middle as middle, Own as own}
 use Rattle.tree.specs.Forest.{Forest}
-use Rattle.arrow.specs.declared.row.Metadata.TheVariants as m
 
 -- the k-th of hints side by side, absent past the last
 abbrev pub nth_hint : ℕ → Forest Hint → Forest Hint
@@ -45,7 +44,7 @@ pub record HandsOn (p : Spot Read) : Type 0 where
 pub record FieldOf : Type 0 where
   pub name : List ℕ
   pub nullable : Bool
-  pub metadata : Metadata
+  pub metadata : Option Metadata
 
 abbrev pub field_of : Full → FieldOf
 field_of r = record { name = r.shaped.name; nullable = r.shaped.field_null; metadata = r.metadata }
@@ -89,9 +88,9 @@ pub record FieldsBelow (typing : Typing) (p : Spot Read) : Type 0 where
       → (row : Row) → inner_field typing y row ≡ record { name = y.of.name; nullable = false; metadata = metadata_of (nth_hint 0 (inside y.given.hint)) None }
   -- a list's element that is the repeated child itself: its name, not null, no metadata
   pub itself : (k : ℕ) (y : Read) → Child p k y → by_itself y.part ≡ false
-      → (row : Row) → inner_field typing y row ≡ record { name = y.of.name; nullable = false; metadata = m.None }
+      → (row : Row) → inner_field typing y row ≡ record { name = y.of.name; nullable = false; metadata = None }
 
 -- the root's field is empty
 pub record RootField (typing : Typing) (x : Read) : Type 0 where
   pub root : x.part ≡ as_root
-  pub empty : (row : Row) → row.nullable ≡ false → outer_field typing x row ≡ record { name = []; nullable = false; metadata = m.None }
+  pub empty : (row : Row) → row.nullable ≡ false → outer_field typing x row ≡ record { name = []; nullable = false; metadata = None }

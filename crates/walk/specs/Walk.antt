@@ -26,30 +26,30 @@ use Rattle.arrow.specs.declared.row.Metadata.TheVariants as m
 -- ── Metadata ──
 
 -- a hint's metadata number, 0 for none
-abbrev pub by_number : ℕ → Metadata
-by_number zero = m.None
-by_number (suc n) = m.Hint (suc n)
+abbrev pub by_number : ℕ → Option Metadata
+by_number zero = None
+by_number (suc n) = Some (m.Hint (suc n))
 
-abbrev pub by_id : Option ℤ → Metadata
-by_id None = m.None
-by_id (Some i) = m.FieldId i
+abbrev pub by_id : Option ℤ → Option Metadata
+by_id None = None
+by_id (Some i) = Some (m.FieldId i)
 
 -- A field has the hint's metadata number, or without a hint the field id.
-abbrev pub metadata_of : Forest Hint → Option ℤ → Metadata
+abbrev pub metadata_of : Forest Hint → Option ℤ → Option Metadata
 metadata_of bare i = by_id i
 metadata_of (plant h below after) i = by_number h.metadata
 
 -- The inner of an element's two rows: the metadata number of the list hint's child, and never a field id; the repeated child of a
 -- LIST or MAP group has none.
-abbrev pub inner_metadata : Part → Forest Hint → Metadata
+abbrev pub inner_metadata : Part → Forest Hint → Option Metadata
 inner_metadata as_root hint = metadata_of (unwrap true hint) None
 inner_metadata as_field hint = metadata_of (unwrap true hint) None
 inner_metadata as_key hint = metadata_of (unwrap true hint) None
-inner_metadata as_element hint = m.None
-inner_metadata as_middle hint = m.None
-inner_metadata as_entries hint = m.None
+inner_metadata as_element hint = None
+inner_metadata as_middle hint = None
+inner_metadata as_entries hint = None
 
-abbrev pub metadata_by : Bool → Read → Metadata
+abbrev pub metadata_by : Bool → Read → Option Metadata
 metadata_by true x = inner_metadata x.part x.given.hint
 metadata_by false x = metadata_of x.given.field x.holder.field_id
 
@@ -103,7 +103,7 @@ type_or (Some type) = type
 pub record Full : Type 0 where
   pub shaped : Shaped
   pub type : ArrowType
-  pub metadata : Metadata
+  pub metadata : Option Metadata
   -- a map's entries' metadata number
   pub entries_metadata : ℕ
 

@@ -138,7 +138,7 @@ list_hint kind = hinted (a_hint name_a kind 21 (a_hint no_name t.Int32 22 bare b
 
 -- ── Rows ──
 
-abbrev pub line : RowKind → ℕ → ℕ → Bool → String → Bool → ArrowType → Metadata → Full
+abbrev pub line : RowKind → ℕ → ℕ → Bool → String → Bool → ArrowType → Option Metadata → Full
 line k r d null name field_null type metadata =
     record {
       shaped = record { row = record { kind = k; levels = record { rep = r; def = d }; nullable = null }; name = codes name; field_null = field_null; entries = [] };
@@ -147,21 +147,21 @@ line k r d null name field_null type metadata =
       entries_metadata = 0;
     }
 
-abbrev pub id : ℕ → Metadata
-id n = m.FieldId (pos n)
+abbrev pub id : ℕ → Option Metadata
+id n = Some (m.FieldId (pos n))
 
 -- levels R and D, nullability, and the field
-abbrev pub list_line : ℕ → ℕ → Bool → String → ArrowType → Metadata → Full
+abbrev pub list_line : ℕ → ℕ → Bool → String → ArrowType → Option Metadata → Full
 list_line r d null name type metadata = line (items_row of_list) r d null name null type metadata
 
-abbrev pub struct_line : ℕ → ℕ → Bool → String → Metadata → Full
+abbrev pub struct_line : ℕ → ℕ → Bool → String → Option Metadata → Full
 struct_line r d null name metadata = line struct_row r d null name null t.Struct metadata
 
 -- a leaf row has its element number and leaf number first
-abbrev pub leaf_line : ℕ → ℕ → ℕ → ℕ → Bool → String → Metadata → Full
+abbrev pub leaf_line : ℕ → ℕ → ℕ → ℕ → Bool → String → Option Metadata → Full
 leaf_line e k r d null name metadata = line (leaf_row (record { element = e; leaf = k })) r d null name null t.Int32 metadata
 
-abbrev pub map_line : ℕ → ℕ → Bool → String → Metadata → Bool → String → ℕ → Full
+abbrev pub map_line : ℕ → ℕ → Bool → String → Option Metadata → Bool → String → ℕ → Full
 map_line r d null name metadata sorted its_entries number =
     record {
       shaped = record { row = record { kind = items_row of_map; levels = record { rep = r; def = d }; nullable = null }; name = codes name; field_null = null; entries = codes its_entries };
@@ -171,10 +171,10 @@ map_line r d null name metadata sorted its_entries number =
     }
 
 abbrev pub decimal_line : ArrowType → Full
-decimal_line type = line (leaf_row (record { element = 1; leaf = 0 })) 0 0 false "a" false type m.None
+decimal_line type = line (leaf_row (record { element = 1; leaf = 0 })) 0 0 false "a" false type None
 
 abbrev pub root_line : Full
-root_line = struct_line 0 0 false "" m.None
+root_line = struct_line 0 0 false "" None
 
 -- ── The table ──
 
@@ -201,11 +201,11 @@ cases =
     -- optional LIST, rule 5, optional leaf
     ∷ case list_five all bare (Ok (root_line ∷ list_line 1 2 true "a" t.List (id 11) ∷ leaf_line 3 0 1 3 true "x" (id 13) ∷ []))
     -- optional LIST, rule 1
-    ∷ case list_one all bare (Ok (root_line ∷ list_line 1 2 true "a" t.List (id 11) ∷ leaf_line 2 0 1 2 false "x" m.None ∷ []))
+    ∷ case list_one all bare (Ok (root_line ∷ list_line 1 2 true "a" t.List (id 11) ∷ leaf_line 2 0 1 2 false "x" None ∷ []))
     -- required LIST, rule 3, repeated leaf: list and struct, list and leaf
     ∷ case list_three all bare
-    (Ok (root_line ∷ list_line 1 1 false "a" t.List (id 11) ∷ struct_line 1 1 false "list" m.None
-    ∷ list_line 2 2 false "x" t.List (id 13) ∷ leaf_line 3 0 2 2 false "x" m.None ∷ []))
+    (Ok (root_line ∷ list_line 1 1 false "a" t.List (id 11) ∷ struct_line 1 1 false "list" None
+    ∷ list_line 2 2 false "x" t.List (id 13) ∷ leaf_line 3 0 2 2 false "x" None ∷ []))
     -- optional MAP, optional value
     ∷ case (a_map bare) all bare
     (Ok (root_line ∷ map_line 1 2 true "m" (id 11) false "entries" 0 ∷ leaf_line 3 0 1 2 false "k" (id 13) ∷ leaf_line 4 1 1 3 true "v" (id 14) ∷ []))
@@ -213,9 +213,9 @@ cases =
     ∷ case (a_map (a_leaf 1 "z" required 15 bare)) (but 0) bare (Ok (root_line ∷ leaf_line 5 2 0 0 false "z" (id 15) ∷ []))
     -- a LargeList hint is taken by rule 5, and not by rule 1
     ∷ case list_five all (list_hint t.LargeList)
-    (Ok (root_line ∷ list_line 1 2 true "a" t.LargeList (m.Hint 21) ∷ leaf_line 3 0 1 3 true "x" (m.Hint 22) ∷ []))
+    (Ok (root_line ∷ list_line 1 2 true "a" t.LargeList (Some (m.Hint 21)) ∷ leaf_line 3 0 1 3 true "x" (Some (m.Hint 22)) ∷ []))
     ∷ case list_one all (list_hint t.LargeList)
-    (Ok (root_line ∷ list_line 1 2 true "a" t.List (m.Hint 21) ∷ leaf_line 2 0 1 2 false "x" m.None ∷ []))
+    (Ok (root_line ∷ list_line 1 2 true "a" t.List (Some (m.Hint 21)) ∷ leaf_line 2 0 1 2 false "x" None ∷ []))
     -- decimals by their bytes and precision, and one that keeps its scale under a hint
     ∷ case (a_decimal (decimal p.FixedLenByteArray 16 38 0)) all bare (Ok (root_line ∷ decimal_line (t.Decimal128 38 (pos 0)) ∷ []))
     ∷ case (a_decimal (decimal p.FixedLenByteArray 17 38 0)) all bare (Ok (root_line ∷ decimal_line (t.Decimal256 38 (pos 0)) ∷ []))
@@ -223,13 +223,13 @@ cases =
     (Ok (root_line ∷ decimal_line (t.Decimal128 9 (pos 2)) ∷ []))
     -- rule 2
     ∷ case list_two all bare
-    (Ok (root_line ∷ list_line 1 1 false "a" t.List (id 11) ∷ struct_line 1 1 false "list" m.None
+    (Ok (root_line ∷ list_line 1 1 false "a" t.List (id 11) ∷ struct_line 1 1 false "list" None
     ∷ leaf_line 3 0 1 1 false "x" (id 13) ∷ leaf_line 4 1 1 1 false "y" (id 14) ∷ []))
     -- rule 4 by both names; not by another name, and not for LIST
     ∷ case (list_named "array" None) all bare
-    (Ok (root_line ∷ list_line 1 1 false "a" t.List (id 11) ∷ struct_line 1 1 false "array" m.None ∷ leaf_line 3 0 1 1 false "x" (id 13) ∷ []))
+    (Ok (root_line ∷ list_line 1 1 false "a" t.List (id 11) ∷ struct_line 1 1 false "array" None ∷ leaf_line 3 0 1 1 false "x" (id 13) ∷ []))
     ∷ case (list_named "a_tuple" (Some a.Map)) all bare
-    (Ok (root_line ∷ list_line 1 1 false "a" t.List (id 11) ∷ struct_line 1 1 false "a_tuple" m.None ∷ leaf_line 3 0 1 1 false "x" (id 13) ∷ []))
+    (Ok (root_line ∷ list_line 1 1 false "a" t.List (id 11) ∷ struct_line 1 1 false "a_tuple" None ∷ leaf_line 3 0 1 1 false "x" (id 13) ∷ []))
     ∷ case (list_named "b_tuple" None) all bare (Ok (root_line ∷ list_line 1 1 false "a" t.List (id 11) ∷ leaf_line 3 0 1 1 false "x" (id 13) ∷ []))
     ∷ case (list_named "array" (Some a.List)) all bare (Ok (root_line ∷ list_line 1 1 false "a" t.List (id 11) ∷ leaf_line 3 0 1 1 false "x" (id 13) ∷ []))
     -- a MAP whose entries have one child is a list
@@ -237,13 +237,13 @@ cases =
     -- the field of a key is never null, though its row is
     ∷ case list_key all bare
     (Ok (root_line ∷ map_line 1 1 false "m" (id 11) false "entries" 0 ∷ line (items_row of_list) 2 3 true "k" false t.List (id 13)
-    ∷ leaf_line 4 0 2 3 false "x" m.None ∷ leaf_line 5 1 1 1 false "v" (id 15) ∷ []))
+    ∷ leaf_line 4 0 2 3 false "x" None ∷ leaf_line 5 1 1 1 false "v" (id 15) ∷ []))
     -- sortedness and the entries' metadata number come from the hint, in which names are not compared
     ∷ case (a_map bare) all (hinted (a_hint name_m (t.Map true) 21 (a_hint no_name t.Struct 22 (a_hint no_name t.Int32 23 bare (a_hint no_name t.Int32 0 bare bare)) bare) bare))
-    (Ok (root_line ∷ map_line 1 2 true "m" (m.Hint 21) true "entries" 22 ∷ leaf_line 3 0 1 2 false "k" (m.Hint 23) ∷ leaf_line 4 1 1 3 true "v" m.None ∷ []))
+    (Ok (root_line ∷ map_line 1 2 true "m" (Some (m.Hint 21)) true "entries" 22 ∷ leaf_line 3 0 1 2 false "k" (Some (m.Hint 23)) ∷ leaf_line 4 1 1 3 true "v" None ∷ []))
     -- a repeated leaf outside of LIST and MAP
     ∷ case (a_leaf 1 "a" repeated 11 bare) all (list_hint (t.FixedSizeList (pos 4)))
-    (Ok (root_line ∷ list_line 1 1 false "a" (t.FixedSizeList (pos 4)) (m.Hint 21) ∷ leaf_line 1 0 1 1 false "a" (m.Hint 22) ∷ []))
+    (Ok (root_line ∷ list_line 1 1 false "a" (t.FixedSizeList (pos 4)) (Some (m.Hint 21)) ∷ leaf_line 1 0 1 1 false "a" (Some (m.Hint 22)) ∷ []))
     -- refusals: a kind of list that is not taken there, a wrong name, a wrong name after all below the sister before it, a broken LIST before its hint
     ∷ case (a_leaf 1 "a" repeated 11 bare) all (list_hint t.ListView) (Err (no.HintKind 1))
     ∷ case list_one all (hinted (a_hint name_b t.List 0 (a_hint no_name t.Int32 0 bare bare) bare)) (Err (no.HintFieldName 1))

@@ -1,7 +1,6 @@
-use Rattle.std.proofs.Common.{get_or}
-use Rattle.arrow.specs.HintTrees.{empty_hint}
+use Rattle.std.proofs.Common.{length, ◌-◌}
 use Rattle.arrow.proofs.primitive.+apply_hint.Given as goal
 
--- the rows of the hint
+-- the rows that are left
 abbrev pub decreases-apply_hint : goal.decreases-apply_hint
-decreases-apply_hint l = (get_or l.hints.now l.row empty_hint).size
+decreases-apply_hint l = length l.hints.now - l.row

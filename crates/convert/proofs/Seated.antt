@@ -39,7 +39,7 @@ use Rattle.walk.specs.Results.{lines, struct_or_list, kind_told, shown_row}
 use Rattle.convert.specs.Outcome.{Outcome, Told, within, within_all, checked, told_label, told_below}
 use Rattle.convert.specs.Visit.{Input, Seats, stands_as, gives_as}
 use Rattle.convert.specs.Own.{outer_field, inner_of, own_field, own_row, list_row, listed_if, leaf_outcome}
-use Rattle.convert.proofs.Names.{and_false}
+use Rattle.std.proofs.Math.Bool.{and-false}
 use Rattle.convert.proofs.Shapes.{differ, again_is}
 use Rattle.convert.proofs.Outcomes.{at_leaf}
 
@@ -57,7 +57,7 @@ pub wrapped_is : (p : Part) (b : Bool) → stands_as p ≡ Some b → (r : Repet
 wrapped_is as_root b h r = subst (λ (x : Bool). is_repeated r ≡ (is_repeated r && not x)) (some_same false b h) (sym (and_true (is_repeated r)))
 wrapped_is as_field b h r = subst (λ (x : Bool). is_repeated r ≡ (is_repeated r && not x)) (some_same false b h) (sym (and_true (is_repeated r)))
 wrapped_is as_key b h r = subst (λ (x : Bool). is_repeated r ≡ (is_repeated r && not x)) (some_same false b h) (sym (and_true (is_repeated r)))
-wrapped_is as_element b h r = subst (λ (x : Bool). false ≡ (is_repeated r && not x)) (some_same true b h) (sym (and_false (is_repeated r)))
+wrapped_is as_element b h r = subst (λ (x : Bool). false ≡ (is_repeated r && not x)) (some_same true b h) (sym (and-false (is_repeated r)))
 wrapped_is as_middle b h r = none_some b h
 wrapped_is as_entries b h r = none_some b h
 

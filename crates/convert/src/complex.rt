@@ -24,8 +24,8 @@ ghost use Rattle.convert.specs.Visit.{Meets, Seats, read_by, gives_as};
 
 use crate::context::{Cursor, Seat, Source, Task};
 use crate::hints::{
-    first_hint, fits_list, fits_map, fits_struct, has_children, has_name, hint_number, is_over_two,
-    is_sorted, list_kind, metadata_of, next_hint, unwrap_hint,
+    first_hint, fits, has_children, has_name, hint_number, is_any_list, is_map, is_over_two,
+    is_sorted, is_struct, list_kind, metadata_of, next_hint, unwrap_hint,
 };
 use crate::reading::{bytes_at, count_children, is_element, is_optional, role_at};
 use crate::rows::{close, close_struct, head_of, is_chosen, is_wrapped, raise, write_leaf};
@@ -92,7 +92,7 @@ fn check_struct(source: Source, at: usize, hint: Option<usize>) -> Result<(), Re
     requires hints { WholeHints (read_by source).hints }
     ensures { (e : Element) (below next : Forest Element) → Stands (read_by source.entry).elements at (plant e below next) → (hs : Forest Hint) → Hinted (read_by source.entry).hints (read_by source.entry).text hint hs → Passes (struct_checks at hs (trees below)) result }
 {
-    if !fits_struct(source.hints, hint) {
+    if !fits(source.hints, hint, is_struct) {
         return Err(Refusal::HintKind(at));
     }
     let fields = count_children(source.elements, at);
@@ -126,7 +126,7 @@ fn check_map(source: Source, at: usize, hint: Option<usize>) -> Result<(), Refus
     requires hints { WholeHints (read_by source).hints }
     ensures { (hs : Forest Hint) → Hinted (read_by source.entry).hints (read_by source.entry).text hint hs → Passes (map_checks at hs) result }
 {
-    if !fits_map(source.hints, hint) {
+    if !fits(source.hints, hint, is_map) {
         return Err(Refusal::HintKind(at));
     }
     if !is_over_two(source.hints, hint) {
@@ -181,6 +181,7 @@ fn middle_row(source: Source, group: Element, task: Task, levels: Levels) -> Res
 }
 
 // The row of a map of key and value, whose entries are the group's repeated child.
+#[tactic(auto, using(crate::proofs::Handing::left_sole, crate::proofs::Grouped::map_shown))]
 fn map_row(
     source: Source,
     group: Element,
@@ -303,7 +304,7 @@ fn visit_list(
     requires reads { Reads (read_by source).elements at ListedRole }
     ensures { VisitsAs ListedRole (read_by source.entry) at task from rows.old rows.new result }
 {
-    if !fits_list(source.hints, task.hint) {
+    if !fits(source.hints, task.hint, is_any_list) {
         return Err(Refusal::HintKind(at));
     }
     let group = source.elements[at];

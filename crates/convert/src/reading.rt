@@ -1,6 +1,5 @@
 // How a group is read: found by its annotation and its children.
 ghost use Rattle.std.specs.Prelude.{◌≡◌, ℕ, ◌+◌, List, ◌++◌, codes};
-ghost use Rattle.std.specs.Str.{bytes_eq};
 ghost use Rattle.tree.specs.Forest.{Forest};
 ghost use Rattle.tree.specs.Forest.Forest.{plant};
 ghost use Rattle.schema.specs.Elements.{part};
@@ -17,19 +16,13 @@ use walk::Role;
 pub(crate) fn is_optional(element: Element) -> bool
     ensures { result ≡ is_optional (or_required element.repetition) }
 {
-    match element.repetition {
-        Some(Repetition::Optional) => true,
-        _ => false,
-    }
+    element.repetition == Some(Repetition::Optional)
 }
 
 pub(crate) fn is_repeated(element: Element) -> bool
     ensures { result ≡ is_repeated (or_required element.repetition) }
 {
-    match element.repetition {
-        Some(Repetition::Repeated) => true,
-        _ => false,
-    }
+    element.repetition == Some(Repetition::Repeated)
 }
 
 // How many children the element at `at` has.
@@ -132,24 +125,14 @@ pub(crate) fn bytes_at<'a>(memory: &'a [u8], place: Place) -> &'a [u8]
     &rest[..length]
 }
 
-pub(crate) fn same(a: &[u8], b: &[u8]) -> bool
-    ensures { result ≡ bytes_eq a.now b.now }
-{
-    a == b
-}
-
 // Whether a name is `array`, or that of the group with `_tuple` after it.
 fn names_element(group: &[u8], name: &[u8]) -> bool
     ensures { result ≡ names_element group.now name.now }
 {
-    if same(name, b"array") {
-        return true;
-    }
-    let length = group.len();
-    if name.len() < length {
-        return false;
-    }
-    same(&name[..length], group) && same(&name[length..], b"_tuple")
+    name == b"array".as_slice()
+        || name
+            .strip_prefix(group)
+            .is_some_and(|rest| rest == b"_tuple".as_slice())
 }
 
 fn one_child(annotation: Annotation, again: bool, by_name: bool) -> bool

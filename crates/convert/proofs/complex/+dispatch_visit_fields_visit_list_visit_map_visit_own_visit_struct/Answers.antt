@@ -1,5 +1,6 @@
 use Rattle.std.proofs.Common.{◌≡◌, ◌+◌, ◌⊎◌, length, sym, refl, ◌∙◌, inl, inr, arith}
 use Rattle.std.proofs.lemmas.Result.{err_from_is_err_and}
+use Rattle.walk.specs.Hints.{any_list}
 use Rattle.walk.specs.declared.role.Role.TheVariants.{Own as own, Listed as listed, Middle as middle, Mapped as mapped, Entries as entries, Broken as broken}
 use Rattle.convert.specs.Visit.{read_by}
 use Rattle.convert.proofs.Structs.{own_leaf}
@@ -81,9 +82,9 @@ visit_fields-returns t c =
     finished c.loop-next.invariant c.in_default.is
 
 -- src/complex.rt:299:9
-pub visit_list-returns-then-not-fits_list : goal.visit_list-returns-then-not-fits_list
-visit_list-returns-then-not-fits_list t c =
-    list_refused (read_by c.args.source) c.args.at c.args.task c.args.from c.args.rows.now c.requires.reads (λ hs p. sym (c.fits_list.ensures c.args.source.text.now hs p) ∙ c.if-not-fits_list.true) c.args.rows.now
+pub visit_list-returns-then-not-fits : goal.visit_list-returns-then-not-fits
+visit_list-returns-then-not-fits t c =
+    list_refused (read_by c.args.source) c.args.at c.args.task c.args.from c.args.rows.now c.requires.reads (λ hs p. sym (c.fits.ensures c.args.source.text.now hs p any_list (λ x b q. q.1)) ∙ c.if-not-fits.true) c.args.rows.now
 
 -- src/complex.rt:306:9
 pub visit_list-visit_own-requires : goal.visit_list-visit_own-requires
@@ -95,7 +96,7 @@ visit_list-visit_own-requires t c =
 -- src/complex.rt:306:9
 pub visit_list-returns-then-is_element : goal.visit_list-returns-then-is_element
 visit_list-returns-then-is_element t c =
-    visits_itself (read_by c.args.source) c.args.at c.args.task c.args.from c.args.rows.now c.requires.reads (λ hs p. sym (c.fits_list.ensures c.args.source.text.now hs p) ∙ c.if-not-fits_list.false)
+    visits_itself (read_by c.args.source) c.args.at c.args.task c.args.from c.args.rows.now c.requires.reads (λ hs p. sym (c.fits.ensures c.args.source.text.now hs p any_list (λ x b q. q.1)) ∙ c.if-not-fits.false)
     c.is_element.result c.is_element.ensures c.if-is_element.true c.element_seat-seat.result (c.element_seat-seat.ensures.levels ∙ c.raise-levels.ensures) c.element_seat-seat.ensures.above c.element_seat-seat.ensures.seats
     c.visit_own.new.rows c.visit_own.result c.visit_own.ensures
 
@@ -117,7 +118,7 @@ pub visit_list-returns-in_err-cursor : goal.visit_list-returns-in_err-cursor
 visit_list-returns-in_err-cursor t c =
     let p = err_from_is_err_and c.from_residual.result c.from_residual.ensures.1 in
     rw (p.1, p.2)
-    (item_off (read_by c.args.source) c.args.at c.args.task c.args.from c.args.rows.now c.requires.reads c.is_element.result c.is_element.ensures c.if-is_element.false c.raise-levels.result c.raise-levels.ensures c.raise-deeper.result c.raise-deeper.ensures (λ hs p. sym (c.fits_list.ensures c.args.source.text.now hs p) ∙ c.if-not-fits_list.false) c.element_seat-seat.result.hint (λ hs p. (c.element_seat-seat.ensures.seats 0 0 hs p).hint) c.dispatch.new.rows _ c.in_err-cursor.ensures)
+    (item_off (read_by c.args.source) c.args.at c.args.task c.args.from c.args.rows.now c.requires.reads c.is_element.result c.is_element.ensures c.if-is_element.false c.raise-levels.result c.raise-levels.ensures c.raise-deeper.result c.raise-deeper.ensures (λ hs p. sym (c.fits.ensures c.args.source.text.now hs p any_list (λ x b q. q.1)) ∙ c.if-not-fits.false) c.element_seat-seat.result.hint (λ hs p. (c.element_seat-seat.ensures.seats 0 0 hs p).hint) c.dispatch.new.rows _ c.in_err-cursor.ensures)
 
 -- src/complex.rt:321:8
 pub visit_list-close-requires : goal.visit_list-close-requires
@@ -131,7 +132,7 @@ visit_list-close-requires t c =
 -- src/complex.rt:291:1
 pub visit_list-returns : goal.visit_list-returns
 visit_list-returns t c =
-    item_done (read_by c.args.source) c.args.at c.args.task c.args.from c.args.rows.now c.requires.reads c.is_element.result c.is_element.ensures c.if-is_element.false c.raise-levels.result c.raise-levels.ensures c.raise-deeper.result c.raise-deeper.ensures (λ hs p. sym (c.fits_list.ensures c.args.source.text.now hs p) ∙ c.if-not-fits_list.false) c.element_seat-seat.result.hint (λ hs p. (c.element_seat-seat.ensures.seats 0 0 hs p).hint)
+    item_done (read_by c.args.source) c.args.at c.args.task c.args.from c.args.rows.now c.requires.reads c.is_element.result c.is_element.ensures c.if-is_element.false c.raise-levels.result c.raise-levels.ensures c.raise-deeper.result c.raise-deeper.ensures (λ hs p. sym (c.fits.ensures c.args.source.text.now hs p any_list (λ x b q. q.1)) ∙ c.if-not-fits.false) c.element_seat-seat.result.hint (λ hs p. (c.element_seat-seat.ensures.seats 0 0 hs p).hint)
     c.dispatch.new.rows c.close.new.rows c.in_ok-cursor.cursor c.close.result c.in_ok-cursor.ensures (omega arith) c.middle_row-row.result c.middle_row-row.ensures c.close.ensures.wrote
 
 -- src/complex.rt:332:5

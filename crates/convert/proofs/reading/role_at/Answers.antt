@@ -4,7 +4,7 @@ use Rattle.schema.specs.declared.basic.Annotation.{Annotation}
 use Rattle.schema.specs.declared.basic.Annotation.TheVariants as a
 use Rattle.schema.specs.declared.element.Element.{Element}
 use Rattle.schema.specs.declared.element.Kind.{Kind}
-use Rattle.schema.specs.declared.element.Kind.TheVariants.{Leaf, Group}
+use Rattle.schema.specs.declared.element.Kind.TheVariants.{Group}
 use Rattle.walk.specs.Labels.{or_required}
 use Rattle.walk.specs.Reading.{by_annotation, map_role}
 use Rattle.convert.specs.Table.{kids}
@@ -14,15 +14,6 @@ use Rattle.convert.proofs.reading.role_at.Goals as goal
 at_kind : (text : List ℕ) (i k : ℕ) (e : Element) (b : Forest Element) (q : Kind) → e.kind ≡ q
     → by_annotation i e.kind (or_required e.repetition) (kids text i k b) ≡ by_annotation i q (or_required e.repetition) (kids text i k b)
 at_kind text i k e b q h = ap (λ (x : Kind). by_annotation i x (or_required e.repetition) (kids text i k b)) h
-
-pub returns-in-Leaf : goal.returns-in-Leaf
-returns-in-Leaf c = λ e b n q text k.
-    at_kind text c.args.at k e b (Leaf c.in-Leaf.field-0) (ap (λ (x : Element). x.kind) (sym (read_here c.args.elements.now c.args.at e b n q)) ∙ c.in-Leaf.is)
-
-pub returns-in-None : goal.returns-in-None
-returns-in-None c = λ e b n q text k.
-    at_kind text c.args.at k e b (Group a.None)
-    (ap (λ (x : Element). x.kind) (sym (read_here c.args.elements.now c.args.at e b n q)) ∙ c.in-Group.is ∙ ap Group c.in-None.is)
 
 pub returns-in-List : goal.returns-in-List
 returns-in-List c = λ e b n q text k.

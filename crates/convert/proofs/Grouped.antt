@@ -1,5 +1,5 @@
 -- The rows of lists and maps, as the code builds them.
-use Rattle.std.proofs.Common.{◌≡◌, ℕ, Bool, List, Some, None, ◌∙◌, ap₂}
+use Rattle.std.proofs.Common.{◌≡◌, ℕ, Bool, List, Some, None, ◌∙◌, ap₂, Ok}
 use Rattle.tree.specs.Forest.{Forest}
 use Rattle.schema.specs.declared.element.Element.{Element}
 use Rattle.arrow.specs.declared.types.ArrowType.TheVariants as a
@@ -24,7 +24,7 @@ module _ (names : List ℕ) (e : Element) (key : Bool) (hs : Forest Hint) (v : L
 
   pub map_shown : (x : Element) (j : ℕ) (sorted : Bool) → sorted ≡ hinted_sorted hs → (number : ℕ) → number ≡ hinted_number (sole (inside hs))
       → shown_row names (map_made x null sorted field number)
-      ≡ items_full typing (entries_told key hs (label names i k e)) entries_role of_map (label names j k x) v (is_optional (or_required e.repetition))
+      ≡ items_full typing (entries_told key hs (label names i k e)) (Ok entries_role) of_map (label names j k x) v (is_optional (or_required e.repetition))
   map_shown x j sorted s number m =
       ap₂ (λ (b c : Bool). shown_row names (map_made x b c field number)) n s
       ∙ ap₂ (λ (g : Field) (y : ℕ). shown_row names (map_made x (is_optional (or_required e.repetition)) (hinted_sorted hs) g y)) f m

@@ -1,5 +1,5 @@
 -- No row's repetition level is above its definition level; and the elements that are read are the schema's.
-use Rattle.std.proofs.Common.{◌≡◌, ℕ, suc, ◌+◌, ◌*◌, ◌≤◌, Bool, true, false, List, [], ◌∷◌, ◌++◌, length, None, ap, arith}
+use Rattle.std.proofs.Common.{◌≡◌, ℕ, suc, ◌+◌, ◌*◌, ◌≤◌, Bool, true, false, List, [], ◌∷◌, ◌++◌, length, None, ap, arith, Ok, Err, Result}
 use Rattle.std.specs.List.{AllByRecursion}
 use Rattle.walk.proofs.Lists.{count_plant}
 use Rattle.walk.proofs.Numbers.{count_numbered, count_reading, height_numbered, height_reading}
@@ -13,8 +13,9 @@ use Rattle.walk.specs.Shape.{Items, Made, base, both_sides, element_rows, group_
 use Rattle.walk.specs.Shape.Items.{of_list}
 use Rattle.walk.specs.Yields.{both_yield}
 use Rattle.walk.specs.declared.levels.Levels.{Levels}
+use Rattle.schema.specs.declared.refusal.Refusal.{Refusal}
 use Rattle.walk.specs.declared.role.Role.{Role}
-use Rattle.walk.specs.declared.role.Role.TheVariants.{Broken as broken, Entries as entries, Listed as listed, Mapped as mapped, Middle as middle, Own as own}
+use Rattle.walk.specs.declared.role.Role.TheVariants.{Entries as entries, Listed as listed, Mapped as mapped, Middle as middle, Own as own}
 use Rattle.schema.specs.Words.{Spelled}
 use Rattle.schema.specs.declared.basic.Repetition.{Repetition}
 use Rattle.schema.specs.declared.basic.Repetition.TheVariants.{Optional as optional, Repeated as repeated, Required as required}
@@ -65,21 +66,21 @@ module _ (most : ℕ) where
   each_struct x false r v h = tt
   each_struct x true r v h = (h, tt)
 
-  each_sides : (role : Role) (both : Bool) (f : Forest Made) → AllByRecursion (Lows most) (listing f) → AllByRecursion (Lows most) (listing (both_sides role both f))
-  each_sides own both f a = a
-  each_sides listed both f a = a
-  each_sides middle both f a = a
-  each_sides entries both f a = a
-  each_sides (broken n) both f a = a
-  each_sides mapped true f a = a
-  each_sides mapped false f a = tt
+  each_sides : (role : Result Role Refusal) (both : Bool) (f : Forest Made) → AllByRecursion (Lows most) (listing f) → AllByRecursion (Lows most) (listing (both_sides role both f))
+  each_sides (Ok own) both f a = a
+  each_sides (Ok listed) both f a = a
+  each_sides (Ok middle) both f a = a
+  each_sides (Ok entries) both f a = a
+  each_sides (Err n) both f a = a
+  each_sides (Ok mapped) true f a = a
+  each_sides (Ok mapped) false f a = tt
 
   each_leaf : (c : Bool) (x : Read) (r : Repetition) (v : Levels) → In v → AllByRecursion (Lows most) (listing (leaf_part c x r v))
   each_leaf true x r v h = (h, tt)
   each_leaf false x r v h = tt
 
   module _ (chosen : ℕ → Bool) where
-    each_element : (k : Kind) (x : Read) (role : Role) (r : Repetition) (v : Levels) (p both : Bool) (inner : Forest Made)
+    each_element : (k : Kind) (x : Read) (role : Result Role Refusal) (r : Repetition) (v : Levels) (p both : Bool) (inner : Forest Made)
         → In v → AllByRecursion (Lows most) (listing inner) → AllByRecursion (Lows most) (listing (element_rows chosen k x role r v p both inner))
     each_element (leaf c) x role r v p both inner h a =
         each_over (wrap x of_list r v p) (leaf_part (chosen x.of.leaf_number) x r v) (each_wrap x of_list r v p h) (each_leaf (chosen x.of.leaf_number) x r v h)
@@ -154,17 +155,17 @@ few_leaf : (c : Bool) (x : Read) (r : Repetition) (v : Levels) → count (leaf_p
 few_leaf true x r v = omega arith
 few_leaf false x r v = omega arith
 
-few_sides : (role : Role) (both : Bool) (f : Forest Made) → count (both_sides role both f) ≤ count f
-few_sides own both f = omega arith
-few_sides listed both f = omega arith
-few_sides middle both f = omega arith
-few_sides entries both f = omega arith
-few_sides (broken n) both f = omega arith
-few_sides mapped true f = omega arith
-few_sides mapped false f = omega arith
+few_sides : (role : Result Role Refusal) (both : Bool) (f : Forest Made) → count (both_sides role both f) ≤ count f
+few_sides (Ok own) both f = omega arith
+few_sides (Ok listed) both f = omega arith
+few_sides (Ok middle) both f = omega arith
+few_sides (Ok entries) both f = omega arith
+few_sides (Err n) both f = omega arith
+few_sides (Ok mapped) true f = omega arith
+few_sides (Ok mapped) false f = omega arith
 
 module _ (chosen : ℕ → Bool) where
-  few_element : (k : Kind) (x : Read) (role : Role) (r : Repetition) (v : Levels) (p both : Bool) (inner : Forest Made)
+  few_element : (k : Kind) (x : Read) (role : Result Role Refusal) (r : Repetition) (v : Levels) (p both : Bool) (inner : Forest Made)
       → count (element_rows chosen k x role r v p both inner) ≤ 2 + count inner
   few_element (leaf c) x role r v p both inner =
       omega (arith, count_over (wrap x of_list r v p) (leaf_part (chosen x.of.leaf_number) x r v), few_wrap x of_list r v p, few_leaf (chosen x.of.leaf_number) x r v)

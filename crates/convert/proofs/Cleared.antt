@@ -1,6 +1,8 @@
 -- A conversion's tables, before and after they are cleared.
-use Rattle.std.proofs.Common.{◌≡◌, ℕ, ◌-◌, ◌*◌, ◌/◌, ◌<◌, ◌≤◌, Bool, true, false, ◌&&◌, ltb, List, ◌++◌, map, length, take, replicate, Some, None, Ok, Err, Decides, Option, Result, sym, refl, ap, ◌∙◌, subst, ap₂, inl, inr, arith}
+use Rattle.std.proofs.Common.{◌≡◌, ℕ, ◌-◌, ◌*◌, ◌/◌, ◌<◌, ◌≤◌, Bool, true, false, ◌&&◌, ltb, List, ◌++◌, map, length, take, drop, replicate, Some, None, Ok, Err, Decides, Option, Result, sym, refl, ap, ◌∙◌, subst, ap₂, inl, inr, arith}
+use borrow.Rule.Slice.PartMut.{put_mid}
 use Rattle.std.specs.List.{range_with_len}
+use Rattle.std.specs.Result.{is_err, result_unwrap_or}
 use Rattle.std.proofs.lemmas.List.FromFn.{fill_by_all}
 use Rattle.std.proofs.lemmas.Bool.{both_ways, le-ltb, lt-ltb, or_from, or_left, or_right}
 use Rattle.tree.specs.Forest.{Forest, alone, count, listing}
@@ -10,8 +12,11 @@ use Rattle.schema.specs.declared.element.Element.{Element}
 use Rattle.schema.specs.declared.refusal.Refusal.{Refusal}
 use Rattle.schema.specs.declared.refusal.Refusal.TheVariants as no
 use Rattle.schema.specs.Posts.{first, memory_kept}
+use Rattle.schema.specs.Reach.{Reached, whole}
 use Rattle.schema.specs.Rows.{IsFinished}
+use Rattle.schema.specs.Words.{Event}
 use Rattle.columns.specs.Levels.{leaves_of}
+use Rattle.columns.proofs.Tables.{cleared as cleared_rows}
 use Rattle.arrow.specs.declared.hint.HintRow.{HintRow}
 use Rattle.arrow.specs.declared.row.ResultRow.{ResultRow}
 use Rattle.arrow.specs.HintTrees.{IsHint}
@@ -23,20 +28,22 @@ use Rattle.walk.specs.Walk.{Full, leaf_typing, walk_under}
 use Rattle.walk.proofs.Chosen.{same_selection}
 use Rattle.promise.specs.Conversion.{Conversion, Converts, Refused, Settled, conversion, empty_row, leaves}
 use Rattle.promise.specs.Conversion.Converts.{no_hint as told_hint, no_room as told_room, other_memory as told_memory, walked as told_walk}
+use Rattle.promise.specs.Promise.{Promised}
+use Rattle.promise.proofs.Kept.{promise_kept}
 use Rattle.promise.proofs.Leaves.{leaf_count_is, leaves_end}
 use Rattle.convert.specs.Handed.{WholeHints}
 use Rattle.convert.specs.Root.{Front, Walks}
-use Rattle.convert.specs.Uncleared.{Uncleared, flags_after, rows_after, used_of}
+use Rattle.convert.specs.Uncleared.{Uncleared, flags_after, rows_after}
 use Rattle.convert.specs.Uncleared.Uncleared.{no_hint, no_room, other_memory, walked}
 use Rattle.convert.specs.Visit.{Input}
 
 -- ── What is walked fits ──
 
-front_fits : (names : List ℕ) (w : Result (Forest Full) Refusal) (after : List ResultRow) (r : Result ℕ Refusal) → Front names w after r → used_of r ≤ length after
-front_fits names (Ok f) after r q = subst (λ (x : Result ℕ Refusal). used_of x ≤ length after) (sym q.0) q.1
-front_fits names (Err e) after r q = subst (λ (x : Result ℕ Refusal). used_of x ≤ length after) (sym q) (omega arith)
+front_fits : (names : List ℕ) (w : Result (Forest Full) Refusal) (after : List ResultRow) (r : Result ℕ Refusal) → Front names w after r → result_unwrap_or r 0 ≤ length after
+front_fits names (Ok f) after r q = subst (λ (x : Result ℕ Refusal). result_unwrap_or x 0 ≤ length after) (sym q.0) q.1
+front_fits names (Err e) after r q = subst (λ (x : Result ℕ Refusal). result_unwrap_or x 0 ≤ length after) (sym q) (omega arith)
 
-pub walks_fit : (s : Input) (after : List ResultRow) (r : Result ℕ Refusal) → Walks s after r → (bytes : ℕ) × IsFinished bytes s.elements → WholeHints s.hints → used_of r ≤ length after
+pub walks_fit : (s : Input) (after : List ResultRow) (r : Result ℕ Refusal) → Walks s after r → (bytes : ℕ) × IsFinished bytes s.elements → WholeHints s.hints → result_unwrap_or r 0 ≤ length after
 walks_fit s after r w t h = front_fits s.names (walk_under s.text h.0 (in_flags s.flags) (shown_tree s.names t.1.0)) after r (w t.0 t.1 h.0 h.1)
 
 pub whole_hints : {n : ℕ} {rows : List HintRow} → IsHint n rows → WholeHints rows
@@ -99,11 +106,36 @@ module _ (s : Schema) (els : List Element) (ns : List ℕ) (set : ℕ → Bool) 
   }
   settled (Err d) e q = refused d q
 
-  pub converts : Uncleared (conversion s els ns set hints text room flag_room r rows flags) → Converts cleared
+  converts : Uncleared (conversion s els ns set hints text room flag_room r rows flags) → Converts cleared
   converts (other_memory k a) = told_memory k (refused no.Memory a)
   converts (no_hint k h a) = told_hint k h (refused no.Hint a)
   converts (no_room k h t a) = told_room k h t (refused no.Table a)
   converts (walked k h t f w) = told_walk k h t (λ tree hs l. settled (walk_under text hs set (shown_tree ns tree.0)) f (w tree hs l))
+
+  pub kept_as : (rows' : List ResultRow) (flags' : List Bool) → rows' ≡ rows_after r rows → flags' ≡ flags_after r flags
+      → Uncleared (conversion s els ns set hints text room flag_room r rows flags)
+      → record {
+        told : Converts (conversion s els ns set hints text room flag_room r rows' flags');
+        promise : (h : List Event) → Reached h (whole s) els ns → Promised h (conversion s els ns set hints text room flag_room r rows' flags');
+      }
+  kept_as rows' flags' e f u =
+      let told : Converts (conversion s els ns set hints text room flag_room r rows' flags') =
+      subst Converts (ap₂ (λ (x : List ResultRow) (y : List Bool). conversion s els ns set hints text room flag_room r x y) (sym e) (sym f)) (converts u) in
+      record { told = told; promise = promise_kept (conversion s els ns set hints text room flag_room r rows' flags') told }
+
+-- refused, every flag is cleared, and else none
+pub flags_kept : (r : Result ℕ Refusal) (flags : List Bool) → false ≡ is_err r → flags ≡ flags_after r flags
+flags_kept (Ok n) flags e = refl
+flags_kept (Err d) flags e = absurd (let z : ◌≡◌ {A = ℕ} 0 1 = cc in omega arith)
+
+pub flags_gone : (r : Result ℕ Refusal) (flags flags' : List Bool) → true ≡ is_err r → flags' ≡ replicate (length flags) false → flags' ≡ flags_after r flags
+flags_gone (Ok n) flags flags' e f = absurd (let z : ◌≡◌ {A = ℕ} 0 1 = cc in omega arith)
+flags_gone (Err d) flags flags' e f = f
+
+-- the rows past the used ones, filled
+pub rows_cleared : (r : Result ℕ Refusal) (n : ℕ) (rows fill : List ResultRow) → n ≡ result_unwrap_or r 0
+    → fill ≡ replicate (length (take (length rows - n) (drop n rows))) empty_row → put_mid n (length rows - n) rows fill ≡ rows_after r rows
+rows_cleared r n rows fill e f = cleared_rows rows fill empty_row n f ∙ ap (λ (k : ℕ). take k rows ++ replicate (length rows - k) empty_row) e
 
 -- ── The steps ──
 

@@ -1,5 +1,5 @@
 -- A field or key visited by its role.
-use Rattle.std.proofs.Common.{◌≡◌, ℕ, Bool, true, false, cond, not, ◌&&◌, ◌||◌, List, [], ◌++◌, map, Ok, Err, Result, sym, refl, ap, ◌∙◌, subst, ap₂, arith, Some, None, Option}
+use Rattle.std.proofs.Common.{◌≡◌, ℕ, Bool, true, false, cond, not, ◌&&◌, ◌||◌, List, [], ◌++◌, map, Ok, Err, Result, sym, refl, ap, ◌∙◌, subst, ap₂, arith, Some, None, Option, ◌⊎◌, inl, inr}
 use Rattle.tree.specs.Forest.{Forest}
 use Rattle.tree.specs.Forest.Forest.{bare, plant}
 use Rattle.schema.specs.declared.basic.Annotation.{Annotation}
@@ -25,7 +25,7 @@ use Rattle.walk.specs.Shape.{Items, raised, has_own, items_of, wrap, leaf_part, 
 use Rattle.walk.specs.Shape.Items.{of_list, of_map}
 use Rattle.walk.specs.Walk.{Full, full_of}
 use Rattle.walk.specs.declared.role.Role.{Role}
-use Rattle.walk.specs.declared.role.Role.TheVariants.{Own as own, Listed as listed, Middle as middle, Mapped as mapped, Entries as entries, Broken as broken}
+use Rattle.walk.specs.declared.role.Role.TheVariants.{Own as own, Listed as listed, Middle as middle, Mapped as mapped, Entries as entries}
 use Rattle.walk.specs.declared.levels.Levels.{Levels}
 use Rattle.convert.specs.declared.context.Cursor.{Cursor}
 use Rattle.convert.specs.declared.context.Seat.{Seat}
@@ -41,7 +41,7 @@ use Rattle.convert.proofs.Outcomes.{at_group, at_leaf, halved}
 
 -- ── A name that is compared, apart ──
 
-module _ (s : Input) (role : Role) (i k : ℕ) (v : Levels) (key : Bool) (hs : Forest Hint) (e : Element) (b : Forest Element) where
+module _ (s : Input) (role : Result Role Refusal) (i k : ℕ) (v : Levels) (key : Bool) (hs : Forest Hint) (e : Element) (b : Forest Element) where
   abbrev typing : Typing
   typing = typing_of s.hints s.text
 
@@ -108,36 +108,28 @@ module _ (s : Input) (role : Role) (i k : ℕ) (v : Levels) (key : Bool) (hs : F
   named_apart named = named_by named e.kind refl
 
   -- a group that breaks the rules
-  pub broken_gives : (x : Refusal) → role ≡ broken x → (n : Option Annotation) → e.kind ≡ group n → field_as s role i k v false key hs e b ≡ Err x
+  pub broken_gives : (x : Refusal) → role ≡ Err x → (n : Option Annotation) → e.kind ≡ group n → field_as s role i k v false key hs e b ≡ Err x
   broken_gives x h n q =
       at_group typing chosen v false (read_as false) n under q
-      ∙ ap (λ (y : Role). checked (group_checks i y (wrapped (read_as false).part rep) hs (trees under))
+      ∙ ap (λ (y : Result Role Refusal). checked (group_checks i y (wrapped (read_as false).part rep) hs (trees under))
       (within_all (map (full_of typing) (group_rows (read_as false) (items_of role) (has_own role) rep (raised v rep) false))
       (halved role (both_yield chosen under) (outcome typing chosen (raised v rep) (passes_null (has_own role) rep) under)))) h
 
 -- ── Roles that an annotation gives ──
 
-abbrev by_parent : Role → ℕ
-by_parent own = 0
-by_parent listed = 0
-by_parent middle = 1
-by_parent mapped = 0
-by_parent entries = 1
-by_parent (broken n) = 0
+abbrev by_parent : Result Role Refusal → ℕ
+by_parent (Ok own) = 0
+by_parent (Ok listed) = 0
+by_parent (Ok middle) = 1
+by_parent (Ok mapped) = 0
+by_parent (Ok entries) = 1
+by_parent (Err n) = 0
 
-abbrev is_broken : Role → ℕ
-is_broken own = 0
-is_broken listed = 0
-is_broken middle = 0
-is_broken mapped = 0
-is_broken entries = 0
-is_broken (broken n) = 1
-
-pub broken_kind : (i : ℕ) (q : Kind) (rep : Repetition) (f : Forest Numbered) (x : Refusal) → by_annotation i q rep f ≡ broken x → (n : Option Annotation) × (q ≡ group n)
-broken_kind i (leaf l) rep f x h = absurd (omega (arith, ap is_broken h))
+pub broken_kind : (i : ℕ) (q : Kind) (rep : Repetition) (f : Forest Numbered) (x : Refusal) → by_annotation i q rep f ≡ Err x → (n : Option Annotation) × (q ≡ group n)
+broken_kind i (leaf l) rep f x h = absurd cc
 broken_kind i (group n) rep f x h = (n, refl)
 
-cond_parent : (b : Bool) (x y : Role) → by_parent x ≡ 0 → by_parent y ≡ 0 → by_parent (cond b x y) ≡ 0
+cond_parent : (b : Bool) (x y : Result Role Refusal) → by_parent x ≡ 0 → by_parent y ≡ 0 → by_parent (cond b x y) ≡ 0
 cond_parent true x y p q = p
 cond_parent false x y p q = q
 
@@ -146,41 +138,44 @@ list_child_own n false b = refl
 list_child_own n true true = refl
 list_child_own n true false = refl
 
-list_own : (n : ℕ) (rep : Repetition) (f : Forest Numbered) → by_parent (list_role n rep f) ≡ 0
-list_own n rep bare = refl
-list_own n rep (plant c cb bare) = list_child_own n (repeated_element c) (is_repeated rep)
-list_own n rep (plant c cb (plant d db z)) = refl
+list_own : (n : ℕ) (r : Repetition) (f : Forest Numbered) → by_parent (list_role n r f) ≡ 0
+list_own n r bare = refl
+list_own n r (plant c cb bare) = list_child_own n (repeated_element c) (is_repeated r)
+list_own n r (plant c cb (plant d db z)) = refl
 
 entries_own : (n : ℕ) (f : Forest Numbered) → by_parent (entries_role n f) ≡ 0
 entries_own n bare = refl
 entries_own n (plant x xb bare) = refl
-entries_own n (plant x xb (plant y yb bare)) = cond_parent (repeated_element x || repeated_element y) (broken (no.EntryRepeated n)) mapped refl refl
+entries_own n (plant x xb (plant y yb bare)) = cond_parent (repeated_element x || repeated_element y) (Err (no.EntryRepeated n)) (Ok mapped) refl refl
 entries_own n (plant x xb (plant y yb (plant z zb w))) = refl
 
 map_child_own : (n : ℕ) (f : Forest Numbered) → by_parent (map_child n f) ≡ 0
 map_child_own n bare = refl
-map_child_own n (plant c cb bare) = cond_parent (repeated_element c && not (is_leaf c.kind)) (entries_role n cb) (broken (no.MapChildNotRepeatedGroup n)) (entries_own n cb) refl
+map_child_own n (plant c cb bare) = cond_parent (repeated_element c && not (is_leaf c.kind)) (entries_role n cb) (Err (no.MapChildNotRepeatedGroup n)) (entries_own n cb) refl
 map_child_own n (plant c cb (plant d db z)) = refl
 
-map_own : (n : ℕ) (rep : Repetition) (f : Forest Numbered) → by_parent (map_role n rep f) ≡ 0
-map_own n rep f = cond_parent (is_repeated rep) (broken (no.MapRepeated n)) (map_child n f) refl (map_child_own n f)
+map_own : (n : ℕ) (r : Repetition) (f : Forest Numbered) → by_parent (map_role n r f) ≡ 0
+map_own n r f = cond_parent (is_repeated r) (Err (no.MapRepeated n)) (map_child n f) refl (map_child_own n f)
 
-own_annotation : (n : ℕ) (q : Kind) (rep : Repetition) (f : Forest Numbered) → by_parent (by_annotation n q rep f) ≡ 0
-own_annotation n (leaf l) rep f = refl
-own_annotation n (group None) rep f = refl
-own_annotation n (group (Some a.List)) rep f = list_own n rep f
-own_annotation n (group (Some a.Map)) rep f = map_own n rep f
-own_annotation n (group (Some a.MapKeyValue)) rep f = map_own n rep f
+own_annotation : (n : ℕ) (q : Kind) (r : Repetition) (f : Forest Numbered) → by_parent (by_annotation n q r f) ≡ 0
+own_annotation n (leaf l) r f = refl
+own_annotation n (group None) r f = refl
+own_annotation n (group (Some a.List)) r f = list_own n r f
+own_annotation n (group (Some a.Map)) r f = map_own n r f
+own_annotation n (group (Some a.MapKeyValue)) r f = map_own n r f
 
-reads_own : (table : List Element) (i : ℕ) (role : Role) → Reads table i role → Rooted table i → by_parent role ≡ 0
+reads_own : (table : List Element) (i : ℕ) (role : Result Role Refusal) → Reads table i role → Rooted table i → by_parent role ≡ 0
 reads_own table i role h t =
     sym (ap by_parent (h t.top t.below t.after t.lies [] 0)) ∙ own_annotation i t.top.kind (or_required t.top.repetition) (kids [] i 0 t.below)
 
-pub never_middle : (table : List Element) (i : ℕ) (role : Role) → Reads table i role → Rooted table i → role ≡ middle → ⊥
-never_middle table i role h t q = omega (arith, reads_own table i role h t, ap by_parent q)
+-- a role that is read, known by its variant
+pub reads_as : {table : List Element} {i : ℕ} {role : Role} (r : Role) → role ≡ r → Reads table i (Ok role) → Reads table i (Ok r)
+reads_as {table} {i} r e h = subst (λ (x : Role). Reads table i (Ok x)) e h
 
-pub never_entries : (table : List Element) (i : ℕ) (role : Role) → Reads table i role → Rooted table i → role ≡ entries → ⊥
-never_entries table i role h t q = omega (arith, reads_own table i role h t, ap by_parent q)
+-- the roles of a repeated child are never read
+pub never_below : (table : List Element) (i : ℕ) (role : Role) → Reads table i (Ok role) → Rooted table i → (role ≡ middle) ⊎ (role ≡ entries) → ⊥
+never_below table i role h t (inl e) = omega (arith, reads_own table i (Ok middle) (reads_as middle e h) t)
+never_below table i role h t (inr e) = omega (arith, reads_own table i (Ok entries) (reads_as entries e h) t)
 
 -- ── The field or key at a place ──
 
@@ -197,20 +192,20 @@ module _ (s : Input) (i : ℕ) (c : Task) (start : Cursor) (before after : List 
       ∙ ap (λ (y : Element). checked (name_checks i c.named (part s.names y.name) hs) (gives_field s i start.leaf c.levels false c.key hs e b)) (sym (read_here s.elements i e b m q))
       ∙ ap (λ (l : List Refusal). checked l (gives_field s i start.leaf c.levels false c.key hs e b)) z.1
 
-  module _ (f : (hs : Forest Hint) → Hinted s.hints s.text c.hint hs → name_checks i c.named (part s.names here.name) hs ≡ []) (role : Role) (g : Reads s.elements i role) where
+  module _ (f : (hs : Forest Hint) → Hinted s.hints s.text c.hint hs → name_checks i c.named (part s.names here.name) hs ≡ []) (role : Result Role Refusal) (g : Reads s.elements i role) where
     role_form : (e : Element) (b m : Forest Element) → Stands s.elements i (plant e b m) → (hs : Forest Hint) → Hinted s.hints s.text c.hint hs
         → gives_field s i start.leaf c.levels c.named c.key hs e b ≡ field_as s role i start.leaf c.levels false c.key hs e b
     role_form e b m q hs p =
         named_apart s (own_role s i start.leaf e b) i start.leaf c.levels c.key hs e b c.named
         ∙ ap (λ (y : Element). checked (name_checks i c.named (part s.names y.name) hs) (gives_field s i start.leaf c.levels false c.key hs e b)) (sym (read_here s.elements i e b m q))
         ∙ ap (λ (l : List Refusal). checked l (gives_field s i start.leaf c.levels false c.key hs e b)) (f hs p)
-        ∙ ap (λ (y : Role). field_as s y i start.leaf c.levels false c.key hs e b) (g e b m q s.names start.leaf)
+        ∙ ap (λ (y : Result Role Refusal). field_as s y i start.leaf c.levels false c.key hs e b) (g e b m q s.names start.leaf)
 
     pub dispatch_by : (r : Result Cursor Refusal) → VisitsAs role s i c start before after r → Dispatches s i c start before after r
     dispatch_by r h e b m q hs p =
         subst (λ (o : Outcome). Meets s.names o start.row (next_leaf s.names start.leaf e b) before after r) (sym (role_form e b m q hs p)) (h e b m q hs p)
 
-    pub dispatch_broken : (x : Refusal) → role ≡ broken x → Dispatches s i c start before after (Err x)
+    pub dispatch_broken : (x : Refusal) → role ≡ Err x → Dispatches s i c start before after (Err x)
     dispatch_broken x h e b m q hs p =
         let n = broken_kind i e.kind (or_required e.repetition) (kids s.names i start.leaf b) x (g e b m q s.names start.leaf ∙ h) in
         role_form e b m q hs p ∙ broken_gives s role i start.leaf c.levels c.key hs e b x h n.0 n.1
@@ -218,9 +213,9 @@ module _ (s : Input) (i : ℕ) (c : Task) (start : Cursor) (before after : List 
   -- with a row of its own
   pub own_as : (seat : Seat) → seat.levels ≡ c.levels → seat.null_above ≡ false
       → ((j k : ℕ) (hs : Forest Hint) → Hinted s.hints s.text c.hint hs → Seats s seat (field_told false c.key hs (label s.names j k here)))
-      → (r : Result Cursor Refusal) → Visits s i seat start before after r → VisitsAs own s i c start before after r
+      → (r : Result Cursor Refusal) → Visits s i seat start before after r → VisitsAs (Ok own) s i c start before after r
   own_as seat l u f r h e b m q hs p =
       let t : Told = field_told false c.key hs (label s.names i start.leaf e) in
       subst (λ (o : Outcome). Meets s.names o start.row (next_leaf s.names start.leaf e b) before after r)
-      (ap₂ (λ (v : Levels) (y : Bool). outcome (typing_of s.hints s.text) (in_flags s.flags) v y (told_tree t own (label s.names i start.leaf e) (kids s.names i start.leaf b))) l u)
+      (ap₂ (λ (v : Levels) (y : Bool). outcome (typing_of s.hints s.text) (in_flags s.flags) v y (told_tree t (Ok own) (label s.names i start.leaf e) (kids s.names i start.leaf b))) l u)
       (h e b m q t (subst (λ (x : Element). Seats s seat (field_told false c.key hs (label s.names i start.leaf x))) (read_here s.elements i e b m q) (f i start.leaf hs p)))

@@ -164,12 +164,6 @@ module _ {s : Input} {i : ℕ} {v : Levels} {hint : Option ℕ} {start : Cursor}
         }
 
     -- the child is smaller than the struct
-    pub next_smaller : (child : ℕ) → next ≡ Some child → (size_at element_span s.elements child < size_at element_span s.elements i) × (child < length s.elements)
-    next_smaller child e =
-        let n = next_child child e in
-        let z = size_told element_span s.elements child n.head n.under n.others_left n.lies in
-        (omega (arith, z, n.past, n.ending, count_plant n.head n.under n.others_left), omega (arith, fits_inside element_span s.elements child n.head n.under n.others_left n.lies))
-
     abbrev pub task : Task
     task = record { levels = v; hint = given; named = true; key = false }
 

@@ -59,7 +59,7 @@ off_list i hs h o = ap (λ (x : Bool). checked (unless x (no.HintKind i)) o) h
 on_list : (i : ℕ) (hs : Forest Hint) → hint_fits any_list hs ≡ true → (o : Outcome) → checked (list_checks i hs) o ≡ o
 on_list i hs h o = ap (λ (x : Bool). checked (unless x (no.HintKind i)) o) h
 
-module _ (s : Input) (i : ℕ) (task : Task) (start : Cursor) (before : List ResultRow) (reads : Reads s.elements i listed) where
+module _ (s : Input) (i : ℕ) (task : Task) (start : Cursor) (before : List ResultRow) (reads : Reads s.elements i (Ok listed)) where
   abbrev rep_here : Repetition
   rep_here = or_required (element_at s.elements i).repetition
 
@@ -73,7 +73,7 @@ module _ (s : Input) (i : ℕ) (task : Task) (start : Cursor) (before : List Res
   shape_here e b n q = listed_shape [] i 0 e b (reads e b n q [] 0)
 
   -- a hint that is no list
-  pub list_refused : Given false → (after : List ResultRow) → VisitsAs listed s i task start before after (Err (no.HintKind i))
+  pub list_refused : Given false → (after : List ResultRow) → VisitsAs (Ok listed) s i task start before after (Err (no.HintKind i))
   list_refused w after e b n q hs p =
       list_form s i start.leaf task.levels task.key hs e b (shape_here e b n q) ∙ off_list i hs (w hs p) _
 
@@ -118,7 +118,7 @@ module _ (s : Input) (i : ℕ) (task : Task) (start : Cursor) (before : List Res
   -- the child is the element
   pub visits_itself : Given true → (d : Bool) → Decides d → d ≡ true → (seat : Seat) → seat.levels ≡ raised task.levels rep_here → seat.null_above ≡ is_optional rep_here
       → ((j k : ℕ) (hs : Forest Hint) → Hinted s.hints s.text task.hint hs → Seats s seat (element_told task.key hs (label s.names j k (element_at s.elements i))))
-      → (after : List ResultRow) (r : Result Cursor Refusal) → Visits s (i + 1) seat start before after r → VisitsAs listed s i task start before after r
+      → (after : List ResultRow) (r : Result Cursor Refusal) → Visits s (i + 1) seat start before after r → VisitsAs (Ok listed) s i task start before after r
   visits_itself fine d w h seat l o seats after r f e b n q hs p =
       let a = shape_here e b n q in
       let k = start.leaf in
@@ -126,9 +126,9 @@ module _ (s : Input) (i : ℕ) (task : Task) (start : Cursor) (before : List Res
       let same = read_here s.elements i e b n q in
       subst (λ (x : Outcome). Meets s.names x start.row (next_leaf s.names k e b) before after r)
       (sym (list_itself s i k task.levels task.key hs e b a (w e b n q k ∙ h) ∙ on_list i hs (fine hs p) _
-      ∙ ap₂ (λ (v : Levels) (x : Bool). outcome (typing_of s.hints s.text) (in_flags s.flags) v x (told_tree told own (label s.names (i + 1) k a.child) (kids s.names (i + 1) k a.under)))
+      ∙ ap₂ (λ (v : Levels) (x : Bool). outcome (typing_of s.hints s.text) (in_flags s.flags) v x (told_tree told (Ok own) (label s.names (i + 1) k a.child) (kids s.names (i + 1) k a.under)))
       (sym (level_here seat.levels l e b n q)) (sym (o ∙ ap (λ (y : Element). is_optional (or_required y.repetition)) same))))
-      (subst (λ (x : ℕ). Meets s.names (gives_as s own (i + 1) k seat told a.child a.under) start.row x before after r) (next_child k e b a)
+      (subst (λ (x : ℕ). Meets s.names (gives_as s (Ok own) (i + 1) k seat told a.child a.under) start.row x before after r) (next_child k e b a)
       (f a.child a.under bare (child_stands e b n q a) told
       (subst (λ (y : Element). Seats s seat (element_told task.key hs (label s.names i k y))) same (seats i k hs p))))
 
@@ -188,12 +188,12 @@ module _ (s : Input) (i : ℕ) (task : Task) (start : Cursor) (before : List Res
 
     abbrev row_of : (e : Element) (b n : Forest Element) → Stands s.elements i (plant e b n) → Forest Hint → Levels → Full
     row_of e b n q hs v =
-        items_full (typing_of s.hints s.text) (middle_told task.key hs (label s.names i start.leaf e)) middle of_list (label s.names (i + 1) start.leaf (shape_here e b n q).child) v
+        items_full (typing_of s.hints s.text) (middle_told task.key hs (label s.names i start.leaf e)) (Ok middle) of_list (label s.names (i + 1) start.leaf (shape_here e b n q).child) v
         (is_optional (or_required e.repetition))
 
     module _ (fine : Given true) where
       item_form : (e : Element) (b n : Forest Element) (q : Stands s.elements i (plant e b n)) (hs : Forest Hint) → Hinted s.hints s.text task.hint hs
-          → field_as s listed i start.leaf task.levels false task.key hs e b ≡ within (row_of e b n q hs deeper) (item_gives e b n q hs deeper)
+          → field_as s (Ok listed) i start.leaf task.levels false task.key hs e b ≡ within (row_of e b n q hs deeper) (item_gives e b n q hs deeper)
       item_form e b n q hs p =
           list_item s i start.leaf task.levels task.key hs e b (shape_here e b n q) (w e b n q start.leaf ∙ h) (through_here e b n q)
           ∙ on_list i hs (fine hs p) _
@@ -203,7 +203,7 @@ module _ (s : Input) (i : ℕ) (task : Task) (start : Cursor) (before : List Res
         abbrev pub item_task : Task
         item_task = record { levels = deeper; hint = given; named = false; key = false }
 
-        pub item_off : (out : List ResultRow) (x : Refusal) → Dispatches s ((i + 1) + 1) item_task inner before out (Err x) → VisitsAs listed s i task start before out (Err x)
+        pub item_off : (out : List ResultRow) (x : Refusal) → Dispatches s ((i + 1) + 1) item_task inner before out (Err x) → VisitsAs (Ok listed) s i task start before out (Err x)
         item_off out x f e b n q hs p =
             let y = through_here e b n q in
             let g : item_gives e b n q hs deeper ≡ Err x = f y.item y.under bare (item_stands e b n q) (sole (inside hs)) (handed hs p) in
@@ -212,10 +212,10 @@ module _ (s : Input) (i : ℕ) (task : Task) (start : Cursor) (before : List Res
         pub item_done : (out after : List ResultRow) (cursor r : Cursor) → Dispatches s ((i + 1) + 1) item_task inner before out (Ok cursor)
             → length before ≡ length out → (row : ResultRow)
             → ((j k : ℕ) (hs : Forest Hint) → Hinted s.hints s.text task.hint hs → (typing : Typing) (y : Numbered)
-            → shown_row s.names row ≡ items_full typing (middle_told task.key hs (label s.names j k (element_at s.elements i))) middle of_list y deeper (is_optional rep_here))
+            → shown_row s.names row ≡ items_full typing (middle_told task.key hs (label s.names j k (element_at s.elements i))) (Ok middle) of_list y deeper (is_optional rep_here))
             → ((bytes : List ℕ) (o : Outcome) (next : ℕ) (before : List ResultRow) → length before ≡ length out → Wrote bytes o (start.row + 1) next before out cursor
             → Wrote bytes (within (shown_row bytes row) o) start.row next before after r)
-            → VisitsAs listed s i task start before after (Ok r)
+            → VisitsAs (Ok listed) s i task start before after (Ok r)
         item_done out after cursor r f long row shows close e b n q hs p =
             let y = through_here e b n q in
             let k = start.leaf in
@@ -223,7 +223,7 @@ module _ (s : Input) (i : ℕ) (task : Task) (start : Cursor) (before : List Res
             let typing : Typing = typing_of s.hints s.text in
             let shown : shown_row s.names row ≡ row_of e b n q hs deeper =
             shows i k hs p typing x
-            ∙ ap (λ (g : Element). items_full typing (middle_told task.key hs (label s.names i k g)) middle of_list x deeper (is_optional (or_required g.repetition))) (read_here s.elements i e b n q) in
+            ∙ ap (λ (g : Element). items_full typing (middle_told task.key hs (label s.names i k g)) (Ok middle) of_list x deeper (is_optional (or_required g.repetition))) (read_here s.elements i e b n q) in
             subst (λ (o : Outcome). Wrote s.names o start.row (next_leaf s.names k e b) before after r)
             (sym (item_form e b n q hs p ∙ ap (λ (g : Full). within g (item_gives e b n q hs deeper)) (sym shown)))
             (close s.names (item_gives e b n q hs deeper) (next_leaf s.names k e b) before long

@@ -1,5 +1,5 @@
 -- A group that is read as a list.
-use Rattle.std.proofs.Common.{◌≡◌, ℕ, ◌+◌, Bool, true, false, cond, List, [], map, Ok, Err, sym, refl, ap, ◌∙◌, ap₂, append-nil, Option}
+use Rattle.std.proofs.Common.{◌≡◌, ℕ, ◌+◌, Bool, true, false, cond, List, [], map, Ok, Err, sym, refl, ap, ◌∙◌, ap₂, append-nil, Option, Result}
 use Rattle.tree.specs.Forest.{Forest, count}
 use Rattle.tree.specs.Forest.Forest.{bare, plant}
 use Rattle.schema.specs.declared.basic.Annotation.{Annotation}
@@ -20,6 +20,7 @@ use Rattle.walk.specs.Shape.{Items, Made, raised, group_rows, passes_null}
 use Rattle.walk.specs.Shape.Items.{of_list}
 use Rattle.walk.specs.Shape.RowKind.{items_row}
 use Rattle.walk.specs.Walk.{Full, full_of}
+use Rattle.schema.specs.declared.refusal.Refusal.{Refusal}
 use Rattle.walk.specs.declared.role.Role.{Role}
 use Rattle.walk.specs.declared.role.Role.TheVariants.{Own as own, Listed as listed, Middle as middle}
 use Rattle.walk.specs.declared.levels.Levels.{Levels}
@@ -94,33 +95,33 @@ module _ (s : Input) (i k : ℕ) (v : Levels) (key : Bool) (hs : Forest Hint) (e
   abbrev below_read : Part → Forest Element → Forest Read
   below_read p f = hinting false hs inner_hint (reading p told.holder (kids s.names i k f))
 
-  pub list_form : field_as s listed i k v false key hs e b
+  pub list_form : field_as s (Ok listed) i k v false key hs e b
       ≡ checked (list_checks i hs) (outcome typing (in_flags s.flags) (raised v rep) (is_optional rep) (below_read (cond itself as_element as_middle) b))
   list_form =
       let f : Forest Read = below_read (cond itself as_element as_middle) b in
-      at_group typing (in_flags s.flags) v false (told_label told listed this) z.how f z.kind
-      ∙ ap (checked (list_checks i hs)) (no_rows (full_of typing) (told_label told listed this) of_list rep (raised v rep) false (outcome typing (in_flags s.flags) (raised v rep) (is_optional rep) f) z.once)
+      at_group typing (in_flags s.flags) v false (told_label told (Ok listed) this) z.how f z.kind
+      ∙ ap (checked (list_checks i hs)) (no_rows (full_of typing) (told_label told (Ok listed) this) of_list rep (raised v rep) false (outcome typing (in_flags s.flags) (raised v rep) (is_optional rep) f) z.once)
 
-  part_form : (p : Part) → cond itself as_element as_middle ≡ p → field_as s listed i k v false key hs e b
+  part_form : (p : Part) → cond itself as_element as_middle ≡ p → field_as s (Ok listed) i k v false key hs e b
       ≡ checked (list_checks i hs) (outcome typing (in_flags s.flags) (raised v rep) (is_optional rep) (below_read p (plant z.child z.under bare)))
   part_form p h =
       list_form
       ∙ ap₂ (λ (x : Part) (f : Forest Element). checked (list_checks i hs) (outcome typing (in_flags s.flags) (raised v rep) (is_optional rep) (below_read x f))) h z.is
 
-  one_hint : (role : Role) (p : Part) → told_tree (record { part = p; holder = told.holder; field = hs; hint = sole inner_hint; named = false }) role (label s.names (i + 1) k z.child) (kids s.names (i + 1) k z.under)
+  one_hint : (role : Result Role Refusal) (p : Part) → told_tree (record { part = p; holder = told.holder; field = hs; hint = sole inner_hint; named = false }) role (label s.names (i + 1) k z.child) (kids s.names (i + 1) k z.under)
       ≡ told_tree (record { part = p; holder = told.holder; field = hs; hint = inner_hint; named = false }) role (label s.names (i + 1) k z.child) (kids s.names (i + 1) k z.under)
   one_hint role p =
       ap (λ (g : Forest Hint). told_tree (record { part = p; holder = told.holder; field = hs; hint = g; named = false }) role (label s.names (i + 1) k z.child) (kids s.names (i + 1) k z.under))
       (sole_twice (inside hs))
 
   -- the repeated child is the element
-  pub list_itself : itself ≡ true → field_as s listed i k v false key hs e b
+  pub list_itself : itself ≡ true → field_as s (Ok listed) i k v false key hs e b
       ≡ checked (list_checks i hs) (outcome typing (in_flags s.flags) (raised v rep) (is_optional rep)
-      (told_tree element_told own (label s.names (i + 1) k z.child) (kids s.names (i + 1) k z.under)))
+      (told_tree element_told (Ok own) (label s.names (i + 1) k z.child) (kids s.names (i + 1) k z.under)))
   unfolding hinting reading
   list_itself h =
       part_form as_element (ap (λ (x : Bool). cond x as_element as_middle) h)
-      ∙ ap (λ (f : Forest Read). checked (list_checks i hs) (outcome typing (in_flags s.flags) (raised v rep) (is_optional rep) f)) (one_hint own as_element)
+      ∙ ap (λ (f : Forest Read). checked (list_checks i hs) (outcome typing (in_flags s.flags) (raised v rep) (is_optional rep) f)) (one_hint (Ok own) as_element)
 
   pub list_through : itself ≡ false → Through z.child z.under
   list_through h =
@@ -130,35 +131,35 @@ module _ (s : Input) (i k : ℕ) (v : Levels) (key : Bool) (hs : Forest Hint) (e
   abbrev middle_told : Told
   middle_told = record { part = as_middle; holder = told.holder; field = hs; hint = inner_hint; named = false }
 
-  middle_form : itself ≡ false → field_as s listed i k v false key hs e b
+  middle_form : itself ≡ false → field_as s (Ok listed) i k v false key hs e b
       ≡ checked (list_checks i hs) (outcome typing (in_flags s.flags) (raised v rep) (is_optional rep)
-      (told_tree middle_told middle (label s.names (i + 1) k z.child) (kids s.names (i + 1) k z.under)))
+      (told_tree middle_told (Ok middle) (label s.names (i + 1) k z.child) (kids s.names (i + 1) k z.under)))
   unfolding hinting reading
   middle_form h =
       part_form as_middle (ap (λ (x : Bool). cond x as_element as_middle) h)
-      ∙ ap (λ (f : Forest Read). checked (list_checks i hs) (outcome typing (in_flags s.flags) (raised v rep) (is_optional rep) f)) (one_hint middle as_middle)
+      ∙ ap (λ (f : Forest Read). checked (list_checks i hs) (outcome typing (in_flags s.flags) (raised v rep) (is_optional rep) f)) (one_hint (Ok middle) as_middle)
 
   -- the row of the list, where its element is the child of the repeated child
   abbrev pub middle_row : Full
   middle_row = full_of typing (record {
-    label = told_label middle_told middle (label s.names (i + 1) k z.child);
+    label = told_label middle_told (Ok middle) (label s.names (i + 1) k z.child);
     inner = false;
     row = record { kind = items_row of_list; levels = raised (raised v rep) repeated; nullable = is_optional rep };
   })
 
   pub list_item : itself ≡ false → (t : Through z.child z.under)
-      → field_as s listed i k v false key hs e b
+      → field_as s (Ok listed) i k v false key hs e b
       ≡ checked (list_checks i hs) (within middle_row
       (gives_field s ((i + 1) + 1) k (raised (raised v rep) repeated) false false inner_hint t.item t.under))
   list_item h t =
       let c : Element = z.child in
       let x : Numbered = label s.names (i + 1) k c in
       let w : Levels = raised v rep in
-      let f : Forest Read = told_below middle_told middle x (kids s.names (i + 1) k z.under) in
+      let f : Forest Read = told_below middle_told (Ok middle) x (kids s.names (i + 1) k z.under) in
       middle_form h
       ∙ ap (checked (list_checks i hs))
-      (at_group typing (in_flags s.flags) w (is_optional rep) (told_label middle_told middle x) t.how f t.kind
-      ∙ ap (λ (r : Repetition). within_all (map (full_of typing) (group_rows (told_label middle_told middle x) of_list false r (raised w r) (is_optional rep)))
+      (at_group typing (in_flags s.flags) w (is_optional rep) (told_label middle_told (Ok middle) x) t.how f t.kind
+      ∙ ap (λ (r : Repetition). within_all (map (full_of typing) (group_rows (told_label middle_told (Ok middle) x) of_list false r (raised w r) (is_optional rep)))
       (outcome typing (in_flags s.flags) (raised w r) (passes_null false r) f)) z.repeats
       ∙ ap (λ (g : Forest Read). within middle_row (outcome typing (in_flags s.flags) (raised w repeated) false g))
       (free false hs bare told.holder nobody inner_hint (kids s.names (i + 1) k z.under))

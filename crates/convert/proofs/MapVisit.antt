@@ -89,13 +89,13 @@ module _ (s : Input) (i k : ℕ) (v : Levels) (key : Bool) (hs : Forest Hint) (e
   abbrev all_here : Forest Element
   all_here = plant z.key z.key_under (plant z.value z.value_under bare)
 
-  fine_form : field_as s mapped i k v false key hs e b ≡ kept_if both (within row_here (followed K V))
+  fine_form : field_as s (Ok mapped) i k v false key hs e b ≡ kept_if both (within row_here (followed K V))
   fine_form = map_by_sides s i k v key hs e b z ∙ ap (λ es. checked es (kept_if both (within row_here (followed K V)))) fine
 
-  pub key_refused : (x : Refusal) → K ≡ Err x → field_as s mapped i k v false key hs e b ≡ Err x
+  pub key_refused : (x : Refusal) → K ≡ Err x → field_as s (Ok mapped) i k v false key hs e b ≡ Err x
   key_refused x h = fine_form ∙ ap (λ (y : Outcome). kept_if both (within row_here (followed y V))) h ∙ kept_refused both x
 
-  pub value_refused : (xs : List Line) (x : Refusal) → K ≡ Ok xs → V ≡ Err x → field_as s mapped i k v false key hs e b ≡ Err x
+  pub value_refused : (xs : List Line) (x : Refusal) → K ≡ Ok xs → V ≡ Err x → field_as s (Ok mapped) i k v false key hs e b ≡ Err x
   value_refused xs x g h = fine_form ∙ ap₂ (λ (y w : Outcome). kept_if both (within row_here (followed y w))) g h ∙ kept_refused both x
 
   next_map : next_leaf s.names leaf_then z.value z.value_under ≡ next_leaf s.names k e b
@@ -119,7 +119,7 @@ module _ (s : Input) (i k : ℕ) (v : Levels) (key : Bool) (hs : Forest Hint) (e
         (wrote_both s.names K V (start + 1) leaf_then (next_leaf s.names leaf_then z.value z.value_under) before mid out middle cursor w x)
 
     pub map_half : start < length before → (middle.row ≡ start + 1) ⊎ (cursor.row ≡ middle.row)
-        → Wrote s.names (field_as s mapped i k v false key hs e b) start (next_leaf s.names k e b) before out (record { row = start; leaf = cursor.leaf })
+        → Wrote s.names (field_as s (Ok mapped) i k v false key hs e b) start (next_leaf s.names k e b) before out (record { row = start; leaf = cursor.leaf })
     map_half h c =
         let lw = length-map (line_of s.names) w.rows in
         let lx = length-map (line_of s.names) x.rows in
@@ -137,7 +137,7 @@ module _ (s : Input) (i k : ℕ) (v : Levels) (key : Bool) (hs : Forest Hint) (e
         → (row : ResultRow) → shown_row s.names row ≡ row_here
         → ((bytes : List ℕ) (o : Outcome) (next : ℕ) (before : List ResultRow) → length before ≡ length out → Wrote bytes o (start + 1) next before out cursor
         → Wrote bytes (within (shown_row bytes row) o) start next before after r)
-        → Wrote s.names (field_as s mapped i k v false key hs e b) start (next_leaf s.names k e b) before after r
+        → Wrote s.names (field_as s (Ok mapped) i k v false key hs e b) start (next_leaf s.names k e b) before after r
     map_whole h c after r long row is close =
         let lw = length-map (line_of s.names) w.rows in
         let lx = length-map (line_of s.names) x.rows in
@@ -149,7 +149,7 @@ module _ (s : Input) (i k : ℕ) (v : Levels) (key : Bool) (hs : Forest Hint) (e
 
 -- ── The visit ──
 
-module _ (s : Input) (i : ℕ) (task : Task) (start : Cursor) (before : List ResultRow) (reads : Reads s.elements i mapped) where
+module _ (s : Input) (i : ℕ) (task : Task) (start : Cursor) (before : List ResultRow) (reads : Reads s.elements i (Ok mapped)) where
   two : (i + 1) + 1 ≡ i + 2
   two = omega arith
 
@@ -200,7 +200,7 @@ module _ (s : Input) (i : ℕ) (task : Task) (start : Cursor) (before : List Res
 
   -- a hint that is no map of two
   pub map_refused : (x : Refusal) → ((hs : Forest Hint) → Hinted s.hints s.text task.hint hs → Passes (map_checks i hs) (Err x)) → (after : List ResultRow)
-      → VisitsAs mapped s i task start before after (Err x)
+      → VisitsAs (Ok mapped) s i task start before after (Err x)
   map_refused x w after e b n q hs p =
       let (rest, g) = w hs p in
       map_by_sides s i start.leaf task.levels task.key hs e b (shape_here e b n q)
@@ -273,7 +273,7 @@ module _ (s : Input) (i : ℕ) (task : Task) (start : Cursor) (before : List Res
         (g z.key z.key_under (plant z.value z.value_under bare) (key_here e b n q z) (sole (inside (sole (inside hs)))) (key_handed hs p))
 
     module _ (fine : (hs : Forest Hint) → Hinted s.hints s.text task.hint hs → map_checks i hs ≡ []) where
-      pub key_off : (mid : List ResultRow) (x : Refusal) → Dispatches s (i + 2) key_task inner before mid (Err x) → VisitsAs mapped s i task start before mid (Err x)
+      pub key_off : (mid : List ResultRow) (x : Refusal) → Dispatches s (i + 2) key_task inner before mid (Err x) → VisitsAs (Ok mapped) s i task start before mid (Err x)
       key_off mid x f e b n q hs p =
           let z = shape_here e b n q in
           key_refused s i start.leaf task.levels task.key hs e b z (fine hs p) x (at_key mid (Err x) f e b n q z hs p)
@@ -347,7 +347,7 @@ module _ (s : Input) (i : ℕ) (task : Task) (start : Cursor) (before : List Res
           (omega (arith, w.ends), omega (arith, y.ends))
 
       module _ (fine : (hs : Forest Hint) → Hinted s.hints s.text task.hint hs → map_checks i hs ≡ []) where
-        pub value_off : (out : List ResultRow) (x : Refusal) → Dispatches s value_spot value_task middle mid out (Err x) → VisitsAs mapped s i task start before out (Err x)
+        pub value_off : (out : List ResultRow) (x : Refusal) → Dispatches s value_spot value_task middle mid out (Err x) → VisitsAs (Ok mapped) s i task start before out (Err x)
         value_off out x g e b n q hs p =
             let z = shape_here e b n q in
             let w = key_wrote e b n q z hs p in
@@ -355,25 +355,25 @@ module _ (s : Input) (i : ℕ) (task : Task) (start : Cursor) (before : List Res
 
         module _ (out : List ResultRow) (cursor : Cursor) (g : Dispatches s value_spot value_task middle mid out (Ok cursor)) where
           pub half_taken : start.row < length before → (middle.row ≡ start.row + 1) ⊎ (cursor.row ≡ middle.row)
-              → VisitsAs mapped s i task start before out (Ok (record { row = start.row; leaf = cursor.leaf }))
+              → VisitsAs (Ok mapped) s i task start before out (Ok (record { row = start.row; leaf = cursor.leaf }))
           half_taken h c e b n q hs p =
               let z = shape_here e b n q in
               map_half s i start.leaf task.levels task.key hs e b z (fine hs p) start.row before mid out middle cursor (key_wrote e b n q z hs p) (at_value out (Ok cursor) g e b n q z hs p) h c
 
           pub taken : (middle.row ≡ start.row + 1 → ⊥) → (cursor.row ≡ middle.row → ⊥) → (after : List ResultRow) (r : Cursor) → length before ≡ length out → (row : ResultRow)
               → ((a j k : ℕ) (hs : Forest Hint) → Hinted s.hints s.text task.hint hs → (typing : Typing)
-              → shown_row s.names row ≡ items_full typing (entries_told task.key hs (label s.names a k (element_at s.elements i))) entries of_map (label s.names j k (element_at s.elements (i + 1))) deeper (is_optional rep_here))
+              → shown_row s.names row ≡ items_full typing (entries_told task.key hs (label s.names a k (element_at s.elements i))) (Ok entries) of_map (label s.names j k (element_at s.elements (i + 1))) deeper (is_optional rep_here))
               → ((bytes : List ℕ) (o : Outcome) (next : ℕ) (before : List ResultRow) → length before ≡ length out → Wrote bytes o (start.row + 1) next before out cursor
               → Wrote bytes (within (shown_row bytes row) o) start.row next before after r)
-              → VisitsAs mapped s i task start before after (Ok r)
+              → VisitsAs (Ok mapped) s i task start before after (Ok r)
           taken h c after r long row shows close e b n q hs p =
               let z = shape_here e b n q in
               let k = start.leaf in
               let typing : Typing = typing_of s.hints s.text in
               let is : shown_row s.names row ≡ map_row s i k task.levels task.key hs e b z =
               shows i (i + 1) k hs p typing
-              ∙ ap₂ (λ (x y : Element). items_full typing (entries_told task.key hs (label s.names i k x)) entries of_map (label s.names (i + 1) k y) deeper (is_optional (or_required x.repetition)))
+              ∙ ap₂ (λ (x y : Element). items_full typing (entries_told task.key hs (label s.names i k x)) (Ok entries) of_map (label s.names (i + 1) k y) deeper (is_optional (or_required x.repetition)))
               (read_here s.elements i e b n q)
               (read_here s.elements (i + 1) z.child (plant z.key z.key_under (plant z.value z.value_under bare)) bare (child_here e b n q z))
-              ∙ ap (λ (v : Levels). items_full typing (entries_told task.key hs (label s.names i k e)) entries of_map (label s.names (i + 1) k z.child) v (is_optional (or_required e.repetition))) (deeper_here e b n q) in
+              ∙ ap (λ (v : Levels). items_full typing (entries_told task.key hs (label s.names i k e)) (Ok entries) of_map (label s.names (i + 1) k z.child) v (is_optional (or_required e.repetition))) (deeper_here e b n q) in
               map_whole s i k task.levels task.key hs e b z (fine hs p) start.row before mid out middle cursor (key_wrote e b n q z hs p) (at_value out (Ok cursor) g e b n q z hs p) h c after r long row is close

@@ -1,5 +1,5 @@
 -- A map of key and value.
-use Rattle.std.proofs.Common.{◌≡◌, ℕ, ◌+◌, Bool, true, false, ◌&&◌, ◌||◌, List, [], ◌∷◌, map, length, Ok, sym, refl, ap, ◌∙◌, ap₂, arith}
+use Rattle.std.proofs.Common.{◌≡◌, ℕ, ◌+◌, Bool, true, false, ◌&&◌, ◌||◌, List, [], ◌∷◌, map, length, Ok, sym, refl, ap, ◌∙◌, ap₂, arith, Result}
 use Rattle.tree.specs.Forest.{Forest, count}
 use Rattle.tree.specs.Forest.Forest.{bare, plant}
 use Rattle.schema.specs.declared.basic.Repetition.{Repetition}
@@ -18,6 +18,7 @@ use Rattle.walk.specs.Shape.{Made, raised, group_rows, passes_null, shape}
 use Rattle.walk.specs.Shape.Items.{of_list, of_map}
 use Rattle.walk.specs.Shape.RowKind.{items_row}
 use Rattle.walk.specs.Walk.{Full, full_of}
+use Rattle.schema.specs.declared.refusal.Refusal.{Refusal}
 use Rattle.walk.specs.declared.role.Role.{Role}
 use Rattle.walk.specs.declared.role.Role.TheVariants.{Mapped as mapped, Entries as entries}
 use Rattle.walk.specs.declared.levels.Levels.{Levels}
@@ -117,27 +118,27 @@ module _ (s : Input) (i k : ℕ) (v : Levels) (key : Bool) (hs : Forest Hint) (e
   abbrev below_read : Forest Element → Forest Read
   below_read f = hinting false hs inner_hint (reading as_entries told.holder (kids s.names i k f))
 
-  map_group : field_as s mapped i k v false key hs e b
+  map_group : field_as s (Ok mapped) i k v false key hs e b
       ≡ checked (map_checks i hs) (kept_if (both_yield chosen (below_read b)) (outcome typing chosen (raised v rep) (is_optional rep) (below_read b)))
   map_group =
-      at_group typing chosen v false (told_label told mapped this) z.how (below_read b) z.kind
-      ∙ ap (checked (map_checks i hs)) (no_rows (full_of typing) (told_label told mapped this) of_list rep (raised v rep) false _ z.once)
+      at_group typing chosen v false (told_label told (Ok mapped) this) z.how (below_read b) z.kind
+      ∙ ap (checked (map_checks i hs)) (no_rows (full_of typing) (told_label told (Ok mapped) this) of_list rep (raised v rep) false _ z.once)
 
   entries_form : kept_if (both_yield chosen (below_read (plant z.child sides_of bare))) (outcome typing chosen (raised v rep) (is_optional rep) (below_read (plant z.child sides_of bare)))
-      ≡ kept_if whole (outcome typing chosen (raised v rep) (is_optional rep) (told_tree entries_told entries entry (kids s.names (i + 1) k sides_of)))
+      ≡ kept_if whole (outcome typing chosen (raised v rep) (is_optional rep) (told_tree entries_told (Ok entries) entry (kids s.names (i + 1) k sides_of)))
   unfolding hinting reading
   entries_form =
       ap (λ (g : Forest Hint). kept_if (every_yield chosen (hinting false hs (inside g) (reading as_key told.holder (kids s.names (i + 1) k sides_of))))
-      (outcome typing chosen (raised v rep) (is_optional rep) (told_tree (record { part = as_entries; holder = told.holder; field = hs; hint = g; named = false }) entries entry (kids s.names (i + 1) k sides_of))))
+      (outcome typing chosen (raised v rep) (is_optional rep) (told_tree (record { part = as_entries; holder = told.holder; field = hs; hint = g; named = false }) (Ok entries) entry (kids s.names (i + 1) k sides_of))))
       (sole_twice (inside hs))
 
   abbrev pub map_row : Full
-  map_row = full_of typing (record { label = told_label entries_told entries entry; inner = false; row = record { kind = items_row of_map; levels = deeper; nullable = is_optional rep } })
+  map_row = full_of typing (record { label = told_label entries_told (Ok entries) entry; inner = false; row = record { kind = items_row of_map; levels = deeper; nullable = is_optional rep } })
 
-  entries_row : outcome typing chosen (raised v rep) (is_optional rep) (told_tree entries_told entries entry (kids s.names (i + 1) k sides_of)) ≡ within map_row (outcome typing chosen deeper false sides_read)
+  entries_row : outcome typing chosen (raised v rep) (is_optional rep) (told_tree entries_told (Ok entries) entry (kids s.names (i + 1) k sides_of)) ≡ within map_row (outcome typing chosen deeper false sides_read)
   entries_row =
-      at_group typing chosen (raised v rep) (is_optional rep) (told_label entries_told entries entry) z.inner sides_read z.child_kind
-      ∙ ap (λ (r : Repetition). within_all (map (full_of typing) (group_rows (told_label entries_told entries entry) of_map false r (raised (raised v rep) r) (is_optional rep)))
+      at_group typing chosen (raised v rep) (is_optional rep) (told_label entries_told (Ok entries) entry) z.inner sides_read z.child_kind
+      ∙ ap (λ (r : Repetition). within_all (map (full_of typing) (group_rows (told_label entries_told (Ok entries) entry) of_map false r (raised (raised v rep) r) (is_optional rep)))
       (outcome typing chosen (raised (raised v rep) r) (passes_null false r) sides_read)) z.repeats
 
   abbrev pub key_at : ℕ
@@ -165,7 +166,7 @@ module _ (s : Input) (i k : ℕ) (v : Levels) (key : Bool) (hs : Forest Hint) (e
   unfolding hinting reading
   sides_form =
       let x : Numbered = label s.names key_at k z.key in
-      let role : Role = own_role s key_at k z.key z.key_under in
+      let role : Result Role Refusal = own_role s key_at k z.key z.key_under in
       let t : Told = field_told false true (sole side_hints) x in
       in_turn typing chosen deeper false (told_label t role x) (told_below t role x (kids s.names key_at k z.key_under))
       (hinting false hs (others side_hints) (reading as_field told.holder (value_numbered (key_at + 1 + count (spelled_by s.names z.key_under)))))
@@ -174,7 +175,7 @@ module _ (s : Input) (i k : ℕ) (v : Levels) (key : Bool) (hs : Forest Hint) (e
       ∙ ap (λ (n : ℕ). followed key_gives (gives_all s n value_leaf deeper false (others side_hints) (plant z.value z.value_under bare))) value_place
       ∙ ap (followed key_gives) (gives_single s value_at value_leaf deeper false (others side_hints) z.value z.value_under)
 
-  pub map_by_sides : field_as s mapped i k v false key hs e b ≡ checked (map_checks i hs) (kept_if whole (within map_row (followed key_gives value_gives)))
+  pub map_by_sides : field_as s (Ok mapped) i k v false key hs e b ≡ checked (map_checks i hs) (kept_if whole (within map_row (followed key_gives value_gives)))
   map_by_sides =
       map_group
       ∙ ap (λ (f : Forest Element). checked (map_checks i hs) (kept_if (both_yield chosen (below_read f)) (outcome typing chosen (raised v rep) (is_optional rep) (below_read f)))) z.is
@@ -185,8 +186,8 @@ module _ (s : Input) (i k : ℕ) (v : Levels) (key : Bool) (hs : Forest Hint) (e
   whole_is xs ys g h =
       let x : Numbered = label s.names key_at k z.key in
       let y : Numbered = label s.names value_at value_leaf z.value in
-      let role : Role = own_role s key_at k z.key z.key_under in
-      let role' : Role = own_role s value_at value_leaf z.value z.value_under in
+      let role : Result Role Refusal = own_role s key_at k z.key z.key_under in
+      let role' : Result Role Refusal = own_role s value_at value_leaf z.value z.value_under in
       let t : Told = field_told false true (sole side_hints) x in
       let t' : Told = field_told false false (sole (others side_hints)) y in
       ap (λ (n : ℕ). every_yield chosen (plant (told_label t role x) (told_below t role x (kids s.names key_at k z.key_under)) (hinting false hs (others side_hints) (reading as_field told.holder (value_numbered n))))) value_place

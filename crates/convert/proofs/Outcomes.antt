@@ -1,5 +1,5 @@
 -- How the outcome of a forest comes from those of its parts.
-use Rattle.std.proofs.Common.{◌≡◌, ℕ, suc, ◌<◌, Bool, true, false, cond, List, [], ◌∷◌, ◌++◌, map, length, Ok, Err, sym, refl, ap, ◌∙◌, append_assoc, append-nil, arith, length-append, Option}
+use Rattle.std.proofs.Common.{◌≡◌, ℕ, suc, ◌<◌, Bool, true, false, cond, List, [], ◌∷◌, ◌++◌, map, length, Ok, Err, sym, refl, ap, ◌∙◌, append_assoc, append-nil, arith, length-append, Option, Result}
 use Rattle.tree.specs.Forest.{Forest, count}
 use Rattle.tree.specs.Forest.Forest.{bare, plant}
 use Rattle.schema.specs.declared.basic.Annotation.{Annotation}
@@ -17,7 +17,7 @@ use Rattle.walk.specs.Shape.{Made, raised, has_own, items_of, wrap, leaf_part, g
 use Rattle.walk.specs.Shape.Items.{of_list}
 use Rattle.walk.specs.Walk.{Full, full_of, unless_refused}
 use Rattle.walk.specs.declared.role.Role.{Role}
-use Rattle.walk.specs.declared.role.Role.TheVariants.{Own as own, Listed as listed, Middle as middle, Mapped as mapped, Entries as entries, Broken as broken}
+use Rattle.walk.specs.declared.role.Role.TheVariants.{Own as own, Listed as listed, Middle as middle, Mapped as mapped, Entries as entries}
 use Rattle.walk.specs.declared.levels.Levels.{Levels}
 use Rattle.walk.proofs.Hinted.{relabel_beside, relabel_over}
 use Rattle.walk.specs.Results.{Line, lines}
@@ -94,22 +94,22 @@ first_half g [] false f = refl
 first_half g (e ∷ es) false f = refl
 
 -- whether a map's rows are kept
-abbrev pub halved : Role → Bool → Outcome → Outcome
-halved own both o = o
-halved listed both o = o
-halved middle both o = o
-halved mapped both o = kept_if both o
-halved entries both o = o
-halved (broken n) both o = o
+abbrev pub halved : Result Role Refusal → Bool → Outcome → Outcome
+halved (Ok own) both o = o
+halved (Ok listed) both o = o
+halved (Ok middle) both o = o
+halved (Ok mapped) both o = kept_if both o
+halved (Ok entries) both o = o
+halved (Err n) both o = o
 
-first_sides : (g : Made → Full) (role : Role) (es : List Refusal) (b : Bool) (f : Forest Made)
+first_sides : (g : Made → Full) (role : Result Role Refusal) (es : List Refusal) (b : Bool) (f : Forest Made)
     → unless_refused es (lines (relabel g (both_sides role b f))) ≡ halved role b (unless_refused es (lines (relabel g f)))
-first_sides g own es b f = refl
-first_sides g listed es b f = refl
-first_sides g middle es b f = refl
-first_sides g mapped es b f = first_half g es b f
-first_sides g entries es b f = refl
-first_sides g (broken n) es b f = refl
+first_sides g (Ok own) es b f = refl
+first_sides g (Ok listed) es b f = refl
+first_sides g (Ok middle) es b f = refl
+first_sides g (Ok mapped) es b f = first_half g es b f
+first_sides g (Ok entries) es b f = refl
+first_sides g (Err n) es b f = refl
 
 module _ (typing : Typing) (chosen : ℕ → Bool) where
   -- the rows of one element round those below it

@@ -39,7 +39,7 @@ use Rattle.walk.specs.Results.{lines, struct_or_list, kind_told, shown_row}
 use Rattle.convert.specs.Outcome.{Outcome, Told, within, within_all, checked, told_label, told_below}
 use Rattle.convert.specs.Visit.{Input, Seats, stands_as, gives_as}
 use Rattle.convert.specs.Own.{outer_field, inner_of, own_field, own_row, list_row, listed_if, leaf_outcome}
-use Rattle.convert.proofs.Names.{and_false}
+use Rattle.std.proofs.Math.Bool.{and-false}
 use Rattle.convert.proofs.Shapes.{differ, again_is}
 use Rattle.convert.proofs.Outcomes.{at_leaf}
 
@@ -57,7 +57,7 @@ pub wrapped_is : (p : Part) (b : Bool) → stands_as p ≡ Some b → (r : Repet
 wrapped_is as_root b h r = subst (λ (x : Bool). is_repeated r ≡ (is_repeated r && not x)) (some_same false b h) (sym (and_true (is_repeated r)))
 wrapped_is as_field b h r = subst (λ (x : Bool). is_repeated r ≡ (is_repeated r && not x)) (some_same false b h) (sym (and_true (is_repeated r)))
 wrapped_is as_key b h r = subst (λ (x : Bool). is_repeated r ≡ (is_repeated r && not x)) (some_same false b h) (sym (and_true (is_repeated r)))
-wrapped_is as_element b h r = subst (λ (x : Bool). false ≡ (is_repeated r && not x)) (some_same true b h) (sym (and_false (is_repeated r)))
+wrapped_is as_element b h r = subst (λ (x : Bool). false ≡ (is_repeated r && not x)) (some_same true b h) (sym (and-false (is_repeated r)))
 wrapped_is as_middle b h r = none_some b h
 wrapped_is as_entries b h r = none_some b h
 
@@ -104,14 +104,14 @@ pub full_is : {k k' : RowKind} {v : Levels} {null : Bool} {n n' : List ℕ} {f f
 full_is a b c d e = cc
 
 module _ (s : Input) (c : Seat) (t : Told) (q : Seats s c t) where
-  pub list_shown : (typing : Typing) (role : Role) (x : Numbered) (v : Levels)
+  pub list_shown : (typing : Typing) (role : Result Role Refusal) (x : Numbered) (v : Levels)
       → shown_row s.names (list_row c v)
       ≡ full_of typing (record { label = told_label t role x; inner = false; row = record { kind = items_row of_list; levels = v; nullable = c.null_above } })
   list_shown typing role x v =
       full_is (ap (λ (y : ArrowType). struct_or_list (nesting y)) q.list ∙ list_kind t.part t.field) q.name
       (ap (λ (b : Bool). not b && c.null_above) q.key) q.list q.metadata
 
-  pub own_shown : (role : Role) (x : Numbered) (name : Place ℕ) → part s.names name ≡ x.name → (r : Repetition) (v : Levels) (type : ArrowType) (n : Option LeafNumbers)
+  pub own_shown : (role : Result Role Refusal) (x : Numbered) (name : Place ℕ) → part s.names name ≡ x.name → (r : Repetition) (v : Levels) (type : ArrowType) (n : Option LeafNumbers)
       → shown_row s.names (own_row c t.hint name r v type n)
       ≡ mk (kind_told n None (nesting type)) v (is_optional r) (name_by (is_repeated r) x.name t.holder.name) (null_by (is_repeated r) t.holder.key (is_optional r)) type
       (metadata_by (is_repeated r) (told_label t role x))
@@ -120,7 +120,7 @@ module _ (s : Input) (c : Seat) (t : Told) (q : Seats s c t) where
   own_shown role x name e repeated v type n = full_is refl e refl refl (inner_is t.part c.element q.element t.hint)
 
   -- a list round what a repeated element gives
-  pub listed_is : (typing : Typing) (role : Role) (x : Numbered) (r : Repetition) (v : Levels) (o : Outcome)
+  pub listed_is : (typing : Typing) (role : Result Role Refusal) (x : Numbered) (r : Repetition) (v : Levels) (o : Outcome)
       → within_all (map (full_of typing) (wrap (told_label t role x) of_list r v c.null_above)) o ≡ listed_if s.names c r v o
   listed_is typing role x required v o = refl
   listed_is typing role x optional v o = refl
@@ -143,7 +143,7 @@ module _ (s : Input) (c : Seat) (t : Told) (q : Seats s c t) (i k : ℕ) (e : El
   levels = raised c.levels rep
 
   abbrev this : Read
-  this = told_label t own (label s.names i k e)
+  this = told_label t (Ok own) (label s.names i k e)
 
   abbrev alone : Bool
   alone = is_repeated rep && not c.element
@@ -157,44 +157,44 @@ module _ (s : Input) (c : Seat) (t : Told) (q : Seats s c t) (i k : ℕ) (e : El
   alone_is : wrapped t.part rep ≡ alone
   alone_is = wrapped_is t.part c.element q.element rep
 
-  leaf_form : gives_as s own i k c t e below ≡ checked (refused_of (in_flags s.flags k) alone alone) (rows_of (in_flags s.flags k))
+  leaf_form : gives_as s (Ok own) i k c t e below ≡ checked (refused_of (in_flags s.flags k) alone alone) (rows_of (in_flags s.flags k))
   leaf_form =
-      at_leaf typing (in_flags s.flags) c.levels c.null_above this l (told_below t own (label s.names i k e) (kids s.names i k below)) kind
+      at_leaf typing (in_flags s.flags) c.levels c.null_above this l (told_below t (Ok own) (label s.names i k e) (kids s.names i k below)) kind
       ∙ ap (λ (b : Bool). checked (name_checks i b (part s.names e.name) t.hint) (checked (refused_of (in_flags s.flags k) (wrapped t.part rep) (wrapped t.part rep)) (rows_of (in_flags s.flags k)))) q.unnamed
       ∙ ap (λ (w : Bool). checked (refused_of (in_flags s.flags k) w w) (rows_of (in_flags s.flags k))) alone_is
 
-  pub leaf_unchosen : in_flags s.flags k ≡ false → gives_as s own i k c t e below ≡ Ok []
+  pub leaf_unchosen : in_flags s.flags k ≡ false → gives_as s (Ok own) i k c t e below ≡ Ok []
   leaf_unchosen h =
       leaf_form ∙ ap (λ (b : Bool). checked (refused_of b alone alone) (rows_of b)) h
       ∙ within_nothing (map (full_of typing) (wrap this of_list rep levels c.null_above))
 
   module _ (h : in_flags s.flags k ≡ true) where
-    chosen_form : gives_as s own i k c t e below ≡ checked (wrap_checks i alone t.hint ++ type_checks i (typing l (unwrap alone t.hint))) (rows_of true)
+    chosen_form : gives_as s (Ok own) i k c t e below ≡ checked (wrap_checks i alone t.hint ++ type_checks i (typing l (unwrap alone t.hint))) (rows_of true)
     chosen_form = leaf_form ∙ ap (λ (b : Bool). checked (refused_of b alone alone) (rows_of b)) h
 
-    pub leaf_misfit : (r : Refusal) → wrap_checks i alone t.hint ≡ r ∷ [] → gives_as s own i k c t e below ≡ Err r
+    pub leaf_misfit : (r : Refusal) → wrap_checks i alone t.hint ≡ r ∷ [] → gives_as s (Ok own) i k c t e below ≡ Err r
     leaf_misfit r w = chosen_form ∙ ap (λ (es : List Refusal). checked (es ++ type_checks i (typing l (unwrap alone t.hint))) (rows_of true)) w
 
     module _ (w : wrap_checks i alone t.hint ≡ []) where
-      typed_form : (x : Option ArrowType) → typing l (unwrap alone t.hint) ≡ x → gives_as s own i k c t e below ≡ checked (type_checks i x) (rows_of true)
+      typed_form : (x : Option ArrowType) → typing l (unwrap alone t.hint) ≡ x → gives_as s (Ok own) i k c t e below ≡ checked (type_checks i x) (rows_of true)
       typed_form x z =
           chosen_form
           ∙ ap (λ (es : List Refusal). checked (es ++ type_checks i (typing l (unwrap alone t.hint))) (rows_of true)) w
           ∙ ap (λ (y : Option ArrowType). checked (type_checks i y) (rows_of true)) z
 
-      pub leaf_untyped : typing l (unwrap alone t.hint) ≡ None → gives_as s own i k c t e below ≡ Err (no.LeafType i)
+      pub leaf_untyped : typing l (unwrap alone t.hint) ≡ None → gives_as s (Ok own) i k c t e below ≡ Err (no.LeafType i)
       leaf_untyped z = typed_form None z
 
       pub leaf_typed : (v : Levels) → v ≡ levels → (type : ArrowType) → typing l (unwrap alone t.hint) ≡ Some type
-          → leaf_outcome s.names c t.hint i k e.name rep v type ≡ gives_as s own i k c t e below
+          → leaf_outcome s.names c t.hint i k e.name rep v type ≡ gives_as s (Ok own) i k c t e below
       leaf_typed v u type z =
           let n : LeafNumbers = record { element = i; leaf = k } in
           let y : leaf_type typing e.kind (leaf_hint this) ≡ type =
           ap (λ (x : Kind). leaf_type typing x (leaf_hint this)) kind ∙ ap (λ (b : Bool). type_or (typing l (unwrap b t.hint))) alone_is ∙ ap type_or z in
           sym (typed_form (Some type) z
-          ∙ listed_is s c t q typing own (label s.names i k e) rep levels (Ok (lines (relabel (full_of typing) (leaf_part true this rep levels))))
+          ∙ listed_is s c t q typing (Ok own) (label s.names i k e) rep levels (Ok (lines (relabel (full_of typing) (leaf_part true this rep levels))))
           ∙ ap (λ (f : Full). listed_if s.names c rep levels (Ok (record { size = 1; row = f } ∷ [])))
-          (full_is refl refl refl y refl ∙ sym (own_shown s c t q own (label s.names i k e) e.name refl rep levels type (Some n)))
+          (full_is refl refl refl y refl ∙ sym (own_shown s c t q (Ok own) (label s.names i k e) e.name refl rep levels type (Some n)))
           ∙ ap (λ (x : Levels). leaf_outcome s.names c t.hint i k e.name rep x type) (sym u))
 
 answered_some : (i : ℕ) (x : Option ArrowType) (type : ArrowType) → answered i x ≡ Ok type → x ≡ Some type

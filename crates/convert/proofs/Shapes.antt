@@ -1,5 +1,5 @@
 -- What a role says of the tree.
-use Rattle.std.proofs.Common.{◌≡◌, ℕ, ◌+◌, Bool, true, false, cond, not, ◌&&◌, List, sym, refl, ap, ◌∙◌, subst, ap₂, arith, Some, None, Option}
+use Rattle.std.proofs.Common.{◌≡◌, ℕ, ◌+◌, Bool, true, false, cond, not, ◌&&◌, List, sym, refl, ap, ◌∙◌, subst, ap₂, arith, Some, None, Option, Ok, Err, Result}
 use Rattle.tree.specs.Forest.{Forest}
 use Rattle.tree.specs.Forest.Forest.{bare, plant}
 use Rattle.schema.specs.declared.element.Element.{Element}
@@ -15,19 +15,12 @@ use Rattle.schema.specs.Elements.{element_span, part}
 use Rattle.walk.specs.Forests.{trees}
 use Rattle.walk.specs.Labels.{is_leaf, is_repeated, or_required}
 use Rattle.walk.specs.Reading.{by_annotation, list_role, list_child, map_role, map_child, entries_role, first_is_element, is_element, one_child, names_element}
+use Rattle.schema.specs.declared.refusal.Refusal.{Refusal}
 use Rattle.walk.specs.declared.role.Role.{Role}
-use Rattle.walk.specs.declared.role.Role.TheVariants.{Own as own, Listed as listed, Middle as middle, Mapped as mapped, Entries as entries, Broken as broken}
+use Rattle.walk.specs.declared.role.Role.TheVariants.{Listed as listed, Mapped as mapped}
 use Rattle.convert.specs.Table.{Stands, element_at, kids}
 use Rattle.convert.proofs.Trees.{read_here, below}
 use Rattle.convert.proofs.Roles.{again, by_one, by_several}
-
-abbrev role_no : Role → ℕ
-role_no own = 0
-role_no listed = 1
-role_no middle = 2
-role_no mapped = 3
-role_no entries = 4
-role_no (broken f) = 5
 
 pub differ : {A : Type 0} → true ≡ false → A
 differ e = absurd (let z : ◌≡◌ {A = ℕ} 0 1 = cc in omega arith)
@@ -62,21 +55,21 @@ pub record AsMap (e : Element) (f : Forest Element) : Type 0 where
   pub value_under : Forest Element
   pub is : f ≡ plant child (plant key key_under (plant value value_under bare)) bare
 
-list_child_is : (n : ℕ) (a b : Bool) → list_child n a b ≡ listed → (a ≡ true) × (b ≡ false)
-list_child_is n false r h = absurd (omega (arith, ap role_no h))
-list_child_is n true true h = absurd (omega (arith, ap role_no h))
+list_child_is : (n : ℕ) (a b : Bool) → list_child n a b ≡ Ok listed → (a ≡ true) × (b ≡ false)
+list_child_is n false r h = absurd cc
+list_child_is n true true h = absurd cc
 list_child_is n true false h = (refl, refl)
 
-list_child_not : (n : ℕ) (a b : Bool) → list_child n a b ≡ mapped → ⊥
-list_child_not n false r h = omega (arith, ap role_no h)
-list_child_not n true true h = omega (arith, ap role_no h)
-list_child_not n true false h = omega (arith, ap role_no h)
+list_child_not : (n : ℕ) (a b : Bool) → list_child n a b ≡ Ok mapped → ⊥
+list_child_not n false r h = cc
+list_child_not n true true h = cc
+list_child_not n true false h = cc
 
-cond_no : (b : Bool) (x y z : Role) → cond b x y ≡ z → (x ≡ z → ⊥) → (b ≡ false) × (y ≡ z)
+cond_no : (b : Bool) (x y z : Result Role Refusal) → cond b x y ≡ z → (x ≡ z → ⊥) → (b ≡ false) × (y ≡ z)
 cond_no true x y z h n = absurd (n h)
 cond_no false x y z h n = (refl, h)
 
-cond_yes : (b : Bool) (x y z : Role) → cond b x y ≡ z → (y ≡ z → ⊥) → (b ≡ true) × (x ≡ z)
+cond_yes : (b : Bool) (x y z : Result Role Refusal) → cond b x y ≡ z → (y ≡ z → ⊥) → (b ≡ true) × (x ≡ z)
 cond_yes true x y z h n = (refl, h)
 cond_yes false x y z h n = absurd (n h)
 
@@ -89,41 +82,41 @@ group_is (leaf l) h = differ (sym h)
 group_is (group n) h = (n, refl)
 
 module _ (text : List ℕ) (i k : ℕ) where
-  list_as : (e : Element) (how : Option Annotation) → e.kind ≡ group how → (f : Forest Element) → list_role i (or_required e.repetition) (kids text i k f) ≡ listed → AsList e f
-  list_as e how q bare h = absurd (omega (arith, ap role_no h))
+  list_as : (e : Element) (how : Option Annotation) → e.kind ≡ group how → (f : Forest Element) → list_role i (or_required e.repetition) (kids text i k f) ≡ Ok listed → AsList e f
+  list_as e how q bare h = absurd cc
   list_as e how q (plant c cb bare) h =
       let s = list_child_is i (again c) (again e) h in
       record { how = how; kind = q; once = s.1; child = c; under = cb; is = refl; repeats = again_is (or_required c.repetition) s.0 }
-  list_as e how q (plant c cb (plant d db z)) h = absurd (omega (arith, ap role_no h))
+  list_as e how q (plant c cb (plant d db z)) h = absurd cc
 
-  list_not_map : (rep : Repetition) (f : Forest Element) → list_role i rep (kids text i k f) ≡ mapped → ⊥
-  list_not_map rep bare h = omega (arith, ap role_no h)
+  list_not_map : (rep : Repetition) (f : Forest Element) → list_role i rep (kids text i k f) ≡ Ok mapped → ⊥
+  list_not_map rep bare h = cc
   list_not_map rep (plant c cb bare) h = list_child_not i (again c) (is_repeated rep) h
-  list_not_map rep (plant c cb (plant d db z)) h = omega (arith, ap role_no h)
+  list_not_map rep (plant c cb (plant d db z)) h = cc
 
-  map_as_list : (e : Element) (how : Option Annotation) → e.kind ≡ group how → (f : Forest Element) → map_role i (or_required e.repetition) (kids text i k f) ≡ listed → AsList e f
+  map_as_list : (e : Element) (how : Option Annotation) → e.kind ≡ group how → (f : Forest Element) → map_role i (or_required e.repetition) (kids text i k f) ≡ Ok listed → AsList e f
   map_as_list e how q f h =
-      let s = cond_no (again e) (broken (no.MapRepeated i)) (map_child i (kids text i k f)) listed h (λ x. omega (arith, ap role_no x)) in
+      let s = cond_no (again e) (Err (no.MapRepeated i)) (map_child i (kids text i k f)) (Ok listed) h (λ x. cc) in
       go s.0 f s.1
     where
-      go : again e ≡ false → (f : Forest Element) → map_child i (kids text i k f) ≡ listed → AsList e f
-      go once bare h = absurd (omega (arith, ap role_no h))
-      go once (plant c cb (plant d db z)) h = absurd (omega (arith, ap role_no h))
+      go : again e ≡ false → (f : Forest Element) → map_child i (kids text i k f) ≡ Ok listed → AsList e f
+      go once bare h = absurd cc
+      go once (plant c cb (plant d db z)) h = absurd cc
       go once (plant c cb bare) h =
-          let s = cond_yes (again c && not (is_leaf c.kind)) (entries_role i (kids text (i + 1) k cb)) (broken (no.MapChildNotRepeatedGroup i)) listed h (λ x. omega (arith, ap role_no x)) in
+          let s = cond_yes (again c && not (is_leaf c.kind)) (entries_role i (kids text (i + 1) k cb)) (Err (no.MapChildNotRepeatedGroup i)) (Ok listed) h (λ x. cc) in
           let b = and_both (again c) (not (is_leaf c.kind)) s.0 in
           record { how = how; kind = q; once = once; child = c; under = cb; is = refl; repeats = again_is (or_required c.repetition) b.0 }
 
-  map_as_map : (e : Element) (how : Option Annotation) → e.kind ≡ group how → (f : Forest Element) → map_role i (or_required e.repetition) (kids text i k f) ≡ mapped → AsMap e f
+  map_as_map : (e : Element) (how : Option Annotation) → e.kind ≡ group how → (f : Forest Element) → map_role i (or_required e.repetition) (kids text i k f) ≡ Ok mapped → AsMap e f
   map_as_map e how q f h =
-      let s = cond_no (again e) (broken (no.MapRepeated i)) (map_child i (kids text i k f)) mapped h (λ x. omega (arith, ap role_no x)) in
+      let s = cond_no (again e) (Err (no.MapRepeated i)) (map_child i (kids text i k f)) (Ok mapped) h (λ x. cc) in
       go s.0 f s.1
     where
       two : again e ≡ false → (c : Element) → (again c && not (is_leaf c.kind)) ≡ true → (cb : Forest Element)
-          → entries_role i (kids text (i + 1) k cb) ≡ mapped → AsMap e (plant c cb bare)
-      two once c w bare h = absurd (omega (arith, ap role_no h))
-      two once c w (plant x xb bare) h = absurd (omega (arith, ap role_no h))
-      two once c w (plant x xb (plant y yb (plant z zb a))) h = absurd (omega (arith, ap role_no h))
+          → entries_role i (kids text (i + 1) k cb) ≡ Ok mapped → AsMap e (plant c cb bare)
+      two once c w bare h = absurd cc
+      two once c w (plant x xb bare) h = absurd cc
+      two once c w (plant x xb (plant y yb (plant z zb a))) h = absurd cc
       two once c w (plant x xb (plant y yb bare)) h =
           let b = and_both (again c) (not (is_leaf c.kind)) w in
           let g = group_is c.kind b.1 in
@@ -142,31 +135,31 @@ module _ (text : List ℕ) (i k : ℕ) where
             is = refl;
           }
 
-      go : again e ≡ false → (f : Forest Element) → map_child i (kids text i k f) ≡ mapped → AsMap e f
-      go once bare h = absurd (omega (arith, ap role_no h))
-      go once (plant c cb (plant d db z)) h = absurd (omega (arith, ap role_no h))
+      go : again e ≡ false → (f : Forest Element) → map_child i (kids text i k f) ≡ Ok mapped → AsMap e f
+      go once bare h = absurd cc
+      go once (plant c cb (plant d db z)) h = absurd cc
       go once (plant c cb bare) h =
-          let s = cond_yes (again c && not (is_leaf c.kind)) (entries_role i (kids text (i + 1) k cb)) (broken (no.MapChildNotRepeatedGroup i)) mapped h (λ x. omega (arith, ap role_no x)) in
+          let s = cond_yes (again c && not (is_leaf c.kind)) (entries_role i (kids text (i + 1) k cb)) (Err (no.MapChildNotRepeatedGroup i)) (Ok mapped) h (λ x. cc) in
           two once c s.0 cb s.1
 
-  as_list : (e : Element) (q : Kind) → e.kind ≡ q → (f : Forest Element) → by_annotation i q (or_required e.repetition) (kids text i k f) ≡ listed → AsList e f
-  as_list e (leaf l) q f h = absurd (omega (arith, ap role_no h))
-  as_list e (group None) q f h = absurd (omega (arith, ap role_no h))
+  as_list : (e : Element) (q : Kind) → e.kind ≡ q → (f : Forest Element) → by_annotation i q (or_required e.repetition) (kids text i k f) ≡ Ok listed → AsList e f
+  as_list e (leaf l) q f h = absurd cc
+  as_list e (group None) q f h = absurd cc
   as_list e (group (Some a.List)) q f h = list_as e (Some a.List) q f h
   as_list e (group (Some a.Map)) q f h = map_as_list e (Some a.Map) q f h
   as_list e (group (Some a.MapKeyValue)) q f h = map_as_list e (Some a.MapKeyValue) q f h
 
-  as_map : (e : Element) (q : Kind) → e.kind ≡ q → (f : Forest Element) → by_annotation i q (or_required e.repetition) (kids text i k f) ≡ mapped → AsMap e f
-  as_map e (leaf l) q f h = absurd (omega (arith, ap role_no h))
-  as_map e (group None) q f h = absurd (omega (arith, ap role_no h))
+  as_map : (e : Element) (q : Kind) → e.kind ≡ q → (f : Forest Element) → by_annotation i q (or_required e.repetition) (kids text i k f) ≡ Ok mapped → AsMap e f
+  as_map e (leaf l) q f h = absurd cc
+  as_map e (group None) q f h = absurd cc
   as_map e (group (Some a.List)) q f h = absurd (list_not_map (or_required e.repetition) f h)
   as_map e (group (Some a.Map)) q f h = map_as_map e (Some a.Map) q f h
   as_map e (group (Some a.MapKeyValue)) q f h = map_as_map e (Some a.MapKeyValue) q f h
 
-  pub listed_shape : (e : Element) (f : Forest Element) → by_annotation i e.kind (or_required e.repetition) (kids text i k f) ≡ listed → AsList e f
+  pub listed_shape : (e : Element) (f : Forest Element) → by_annotation i e.kind (or_required e.repetition) (kids text i k f) ≡ Ok listed → AsList e f
   listed_shape e f h = as_list e e.kind refl f h
 
-  pub mapped_shape : (e : Element) (f : Forest Element) → by_annotation i e.kind (or_required e.repetition) (kids text i k f) ≡ mapped → AsMap e f
+  pub mapped_shape : (e : Element) (f : Forest Element) → by_annotation i e.kind (or_required e.repetition) (kids text i k f) ≡ Ok mapped → AsMap e f
   mapped_shape e f h = as_map e e.kind refl f h
 
 -- ── Rules 1 to 5 ──

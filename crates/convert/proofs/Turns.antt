@@ -1,5 +1,5 @@
 -- Fields in turn, and a struct round its fields.
-use Rattle.std.proofs.Common.{◌≡◌, ℕ, suc, ◌+◌, ◌*◌, ◌≤◌, Bool, true, false, not, ◌&&◌, List, [], ◌∷◌, ◌++◌, map, length, None, Ok, sym, refl, ap, ◌∙◌, ap₂, arith, Option}
+use Rattle.std.proofs.Common.{◌≡◌, ℕ, suc, ◌+◌, ◌*◌, ◌≤◌, Bool, true, false, not, ◌&&◌, List, [], ◌∷◌, ◌++◌, map, length, None, Ok, sym, refl, ap, ◌∙◌, ap₂, arith, Option, Result}
 use Rattle.tree.specs.Forest.{Forest, count}
 use Rattle.tree.specs.Forest.Forest.{bare, plant}
 use Rattle.schema.specs.declared.basic.Annotation.{Annotation}
@@ -64,7 +64,7 @@ unfolding hinting reading
 gives_turn s n k v named hs e b c =
     let m : n + 1 + count (spelled_by s.names b) ≡ n + (1 + count b) = omega (arith, count_shown s.names b) in
     let x : Numbered = label s.names n k e in
-    let role : Role = own_role s n k e b in
+    let role : Result Role Refusal = own_role s n k e b in
     let t : Told = field_told named false (sole hs) x in
     in_turn (typing_of s.hints s.text) (in_flags s.flags) v false (told_label t role x) (told_below t role x (kids s.names n k b))
     (hinting named bare (others hs) (reading as_field nobody (numbered (n + 1 + count (spelled_by s.names b)) (next_leaf s.names k e b) (spelled_by s.names c))))
@@ -111,7 +111,7 @@ outcome_few typing chosen v p f rows h =
     let r : lines (relabel (full_of typing) (shape chosen v p f)) ≡ rows = first_rows (refusals typing chosen f) (lines (relabel (full_of typing) (shape chosen v p f))) rows h in
     omega (arith, ap length r, length_lines (relabel (full_of typing) (shape chosen v p f)), count_relabel (full_of typing) (shape chosen v p f), few chosen f v p)
 
-pub field_few : (s : Input) (role : Role) (i k : ℕ) (v : Levels) (named key : Bool) (hs : Forest Hint) (e : Element) (b : Forest Element) (rows : List Line)
+pub field_few : (s : Input) (role : Result Role Refusal) (i k : ℕ) (v : Levels) (named key : Bool) (hs : Forest Hint) (e : Element) (b : Forest Element) (rows : List Line)
     → field_as s role i k v named key hs e b ≡ Ok rows → length rows ≤ 2 * (1 + count b)
 field_few s role i k v named key hs e b rows h =
     let x : Numbered = label s.names i k e in
@@ -148,32 +148,32 @@ module _ (s : Input) (c : Seat) (t : Told) (q : Seats s c t) (i k : ℕ) (e : El
   struct_within v o = listed_if s.names c rep v (within (shown_row s.names (own_row c t.hint e.name rep v a.Struct None)) o)
 
   rows_form : (r : Repetition) (v : Levels) (o : Outcome)
-      → within_all (map (full_of (typing_of s.hints s.text)) (group_rows (told_label t own (label s.names i k e)) of_list true r v c.null_above)) o
+      → within_all (map (full_of (typing_of s.hints s.text)) (group_rows (told_label t (Ok own) (label s.names i k e)) of_list true r v c.null_above)) o
       ≡ listed_if s.names c r v (within (shown_row s.names (own_row c t.hint e.name r v a.Struct None)) o)
-  rows_form required v o = ap (λ (f : Full). within f o) (sym (own_shown s c t q own (label s.names i k e) e.name refl required v a.Struct None))
-  rows_form optional v o = ap (λ (f : Full). within f o) (sym (own_shown s c t q own (label s.names i k e) e.name refl optional v a.Struct None))
+  rows_form required v o = ap (λ (f : Full). within f o) (sym (own_shown s c t q (Ok own) (label s.names i k e) e.name refl required v a.Struct None))
+  rows_form optional v o = ap (λ (f : Full). within f o) (sym (own_shown s c t q (Ok own) (label s.names i k e) e.name refl optional v a.Struct None))
   rows_form repeated v o =
-      ap₂ (λ (f g : Full). within f (within g o)) (sym (list_shown s c t q (typing_of s.hints s.text) own (label s.names i k e) v))
-      (sym (own_shown s c t q own (label s.names i k e) e.name refl repeated v a.Struct None))
+      ap₂ (λ (f g : Full). within f (within g o)) (sym (list_shown s c t q (typing_of s.hints s.text) (Ok own) (label s.names i k e) v))
+      (sym (own_shown s c t q (Ok own) (label s.names i k e) e.name refl repeated v a.Struct None))
 
-  pub struct_form : gives_as s own i k c t e below
+  pub struct_form : gives_as s (Ok own) i k c t e below
       ≡ checked struct_refused (struct_within own_levels (gives_all s (i + 1) k own_levels true (inside (unwrap alone t.hint)) below))
   struct_form =
       let typing : Typing = typing_of s.hints s.text in
       let x : Numbered = label s.names i k e in
       let w : Bool = wrapped t.part rep in
-      let f : Forest Read = told_below t own x (kids s.names i k below) in
+      let f : Forest Read = told_below t (Ok own) x (kids s.names i k below) in
       let m : trees f ≡ trees below =
       trees_hinting true t.field (inside (unwrap w t.hint)) (reading as_field t.holder (kids s.names i k below))
       ∙ trees_reading as_field t.holder (kids s.names i k below) ∙ trees_kids s.names (i + 1) k below in
-      at_group typing (in_flags s.flags) c.levels c.null_above (told_label t own x) n f kind
+      at_group typing (in_flags s.flags) c.levels c.null_above (told_label t (Ok own) x) n f kind
       ∙ ap (λ (b : Bool). checked (name_checks i b (part s.names e.name) t.hint)
-      (checked (group_checks i own w t.hint (trees f))
-      (within_all (map (full_of typing) (group_rows (told_label t own x) of_list true rep own_levels c.null_above)) (outcome typing (in_flags s.flags) own_levels false f)))) q.unnamed
-      ∙ ap (λ (z : ℕ). checked (group_checks i own w t.hint z)
-      (within_all (map (full_of typing) (group_rows (told_label t own x) of_list true rep own_levels c.null_above)) (outcome typing (in_flags s.flags) own_levels false f))) m
-      ∙ ap (checked (group_checks i own w t.hint (trees below))) (rows_form rep own_levels (outcome typing (in_flags s.flags) own_levels false f))
-      ∙ ap (λ (g : Forest Read). checked (group_checks i own w t.hint (trees below)) (struct_within own_levels (outcome typing (in_flags s.flags) own_levels false g)))
+      (checked (group_checks i (Ok own) w t.hint (trees f))
+      (within_all (map (full_of typing) (group_rows (told_label t (Ok own) x) of_list true rep own_levels c.null_above)) (outcome typing (in_flags s.flags) own_levels false f)))) q.unnamed
+      ∙ ap (λ (z : ℕ). checked (group_checks i (Ok own) w t.hint z)
+      (within_all (map (full_of typing) (group_rows (told_label t (Ok own) x) of_list true rep own_levels c.null_above)) (outcome typing (in_flags s.flags) own_levels false f))) m
+      ∙ ap (checked (group_checks i (Ok own) w t.hint (trees below))) (rows_form rep own_levels (outcome typing (in_flags s.flags) own_levels false f))
+      ∙ ap (λ (g : Forest Read). checked (group_checks i (Ok own) w t.hint (trees below)) (struct_within own_levels (outcome typing (in_flags s.flags) own_levels false g)))
       (free true t.field bare t.holder nobody (inside (unwrap w t.hint)) (kids s.names i k below))
       ∙ ap (λ (b : Bool). checked (wrap_checks i b t.hint ++ struct_checks i (unwrap b t.hint) (trees below)) (struct_within own_levels (gives_all s (i + 1) k own_levels true (inside (unwrap b t.hint)) below)))
       (wrapped_is t.part c.element q.element rep)

@@ -80,12 +80,12 @@ module _ (s : Input) (i : ℕ) (c : Seat) (start : Cursor) where
   module _ (before after : List ResultRow) (n : Option Annotation) (kind : here.kind ≡ group n) where
     at_here : (r : Result Cursor Refusal)
         → ((b next : Forest Element) → Stands s.elements i (plant here b next) → (t : Told) → Seats s c t
-        → Meets s.names (gives_as s own i start.leaf c t here b) start.row (start.leaf + leaf_count (spelled_by s.names b)) before after r)
+        → Meets s.names (gives_as s (Ok own) i start.leaf c t here b) start.row (start.leaf + leaf_count (spelled_by s.names b)) before after r)
         → Visits s i c start before after r
     at_here r f e b m q t st =
         let p = read_here s.elements i e b m q in
-        subst (λ (x : Element). Meets s.names (gives_as s own i start.leaf c t x b) start.row (next_leaf s.names start.leaf x b) before after r) p
-        (subst (λ (z : ℕ). Meets s.names (gives_as s own i start.leaf c t here b) start.row z before after r)
+        subst (λ (x : Element). Meets s.names (gives_as s (Ok own) i start.leaf c t x b) start.row (next_leaf s.names start.leaf x b) before after r) p
+        (subst (λ (z : ℕ). Meets s.names (gives_as s (Ok own) i start.leaf c t here b) start.row z before after r)
         (ap (λ (y : Kind). start.leaf + cond (is_leaf y) 1 (leaf_count (spelled_by s.names b))) (sym kind))
         (f b m (subst (λ (x : Element). Stands s.elements i (plant x b m)) (sym p) q) t st))
 
@@ -104,7 +104,7 @@ module _ (s : Input) (i : ℕ) (c : Seat) (start : Cursor) where
         within_hinted (hs, p) = (unwrap w hs, (f s.text hs p).1)
 
         -- what is left where the hint is unwrapped
-        unwrapped_form : (t : Told) (st : Seats s c t) (b : Forest Element) → gives_as s own i start.leaf c t here b
+        unwrapped_form : (t : Told) (st : Seats s c t) (b : Forest Element) → gives_as s (Ok own) i start.leaf c t here b
             ≡ checked (struct_checks i (unwrap w t.hint) (trees b))
             (struct_within s c t st i start.leaf here n kind b (raised c.levels rep) (gives_all s (i + 1) start.leaf (raised c.levels rep) true (inside (unwrap w t.hint)) b))
         unwrapped_form t st b =
@@ -128,7 +128,7 @@ module _ (s : Input) (i : ℕ) (c : Seat) (start : Cursor) where
 
         module _ (g : (e : Element) (b m : Forest Element) → Stands s.elements i (plant e b m) → (hs : Forest Hint) → Hinted s.hints s.text hint hs → struct_checks i hs (trees b) ≡ [])
             (levels : Levels) (l : levels ≡ raised c.levels rep) (head : ℕ) (h : head ≡ start.row + cond (is_repeated rep) 1 0) where
-          checked_form : (t : Told) (st : Seats s c t) (b m : Forest Element) → Stands s.elements i (plant here b m) → gives_as s own i start.leaf c t here b
+          checked_form : (t : Told) (st : Seats s c t) (b m : Forest Element) → Stands s.elements i (plant here b m) → gives_as s (Ok own) i start.leaf c t here b
               ≡ struct_within s c t st i start.leaf here n kind b levels (gives_all s (i + 1) start.leaf levels true (inside (unwrap w t.hint)) b)
           checked_form t st b m q =
               unwrapped_form t st b

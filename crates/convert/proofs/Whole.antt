@@ -70,11 +70,11 @@ typing_same rows text = λ i l hint. go l hint i
     go l (plant h b c) = refl
 
 root_read : (hints : Forest Hint) (x : Numbered) (below : Forest Numbered) → x.kind ≡ group None
-    → hinting false bare hints (reading as_root nobody (plant x below bare)) ≡ told_tree (root_told hints) own x below
+    → hinting false bare hints (reading as_root nobody (plant x below bare)) ≡ told_tree (root_told hints) (Ok own) x below
 unfolding reading hinting
 root_read hints x below e =
-    let F : Role → Forest Read = λ role. plant (told_label (root_told hints) role x) (told_below (root_told hints) role x below) bare in
-    ap F (ap {B = Role} (λ (k : Kind). by_annotation x.number k x.repetition below) e)
+    let F : Result Role Refusal → Forest Read = λ role. plant (told_label (root_told hints) role x) (told_below (root_told hints) role x below) bare in
+    ap F (ap {B = Result Role Refusal} (λ (k : Kind). by_annotation x.number k x.repetition below) e)
 
 plain_none : (k : Kind) → plain_group k ≡ true → k ≡ group None
 plain_none (group None) e = refl
@@ -134,7 +134,7 @@ module _ (s : Input) where
       walked = walk_under s.text h (in_flags s.flags) (shown_tree s.names tree.0)
 
       root_outcome : (seat : Seat) → seat.levels ≡ base → seat.null_above ≡ false
-          → gives_as s own 0 0 seat (root_told (hints_of s.text 0 h)) tree.0.root tree.0.under ≡ lined_result walked
+          → gives_as s (Ok own) 0 0 seat (root_told (hints_of s.text 0 h)) tree.0.root tree.0.under ≡ lined_result walked
       root_outcome seat lv na =
           let hints : Forest Hint = hints_of s.text 0 h in
           let x : Numbered = label s.names 0 0 tree.0.root in
@@ -144,7 +144,7 @@ module _ (s : Input) where
           let chosen : ℕ → Bool = in_flags s.flags in
           let typings : typing_of s.hints s.text ≡ typing =
           typing_same s.hints s.text ∙ ap {B = Typing} (λ (rows : List HintRow). leaf_typing rows s.text) (sym l.lists) in
-          ap₂ (λ (v : Levels) (b : Bool). outcome (typing_of s.hints s.text) chosen v b (told_tree (root_told hints) own x below)) lv na
+          ap₂ (λ (v : Levels) (b : Bool). outcome (typing_of s.hints s.text) chosen v b (told_tree (root_told hints) (Ok own) x below)) lv na
           ∙ ap₂ (λ (t : Typing) (f : Forest Read). outcome t chosen base false f) typings (sym (root_read hints x below (root_plain bytes tree.0.root tree.1.root)))
           ∙ lined (refusals typing chosen read) (relabel (full_of typing) (shape chosen base false read))
 

@@ -63,13 +63,13 @@ pub record Told : Type 0 where
   pub hint : Forest Hint
   pub named : Bool
 
-abbrev pub told_label : Told → Role → Numbered → Read
+abbrev pub told_label : Told → Result Role Refusal → Numbered → Read
 told_label s role x = record { of = x; role = role; part = s.part; holder = s.holder; given = record { named = s.named; hint = s.hint; field = s.field } }
 
 -- the elements below one, read by its role
-abbrev pub told_below : Told → Role → Numbered → Forest Numbered → Forest Read
+abbrev pub told_below : Told → Result Role Refusal → Numbered → Forest Numbered → Forest Read
 told_below s role x below =
     hinting (compares_names role) s.field (hands_on role (wrapped s.part x.repetition) s.hint) (reading (child_part role x.name below) s.holder below)
 
-abbrev pub told_tree : Told → Role → Numbered → Forest Numbered → Forest Read
+abbrev pub told_tree : Told → Result Role Refusal → Numbered → Forest Numbered → Forest Read
 told_tree s role x below = plant (told_label s role x) (told_below s role x below) bare

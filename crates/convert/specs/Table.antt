@@ -1,5 +1,5 @@
 -- The tables that the walk reads: the trees that lie in them, and the elements as the rules see them.
-use Rattle.std.specs.Prelude.{◌≡◌, ℕ, ◌+◌, ◌≤◌, List, ◌++◌, length, drop, slice_index_or}
+use Rattle.std.specs.Prelude.{◌≡◌, ℕ, ◌+◌, ◌≤◌, List, ◌++◌, length, drop, slice_index_or, Result}
 use Rattle.tree.specs.Forest.{Forest, listing, count, Sized, Lists}
 use Rattle.tree.specs.Forest.Forest.{plant}
 use Rattle.schema.specs.declared.element.Element.{Element}
@@ -9,6 +9,7 @@ use Rattle.schema.specs.Words.{Spelled}
 use Rattle.walk.specs.Forests.{relabel}
 use Rattle.walk.specs.Labels.{Numbered, numbered, numbered_as, or_required}
 use Rattle.walk.specs.Reading.{by_annotation}
+use Rattle.schema.specs.declared.refusal.Refusal.{Refusal}
 use Rattle.walk.specs.declared.role.Role.{Role}
 
 -- ── Trees that lie in a table ──
@@ -49,7 +50,7 @@ abbrev pub kids : List ℕ → ℕ → ℕ → Forest Element → Forest Numbere
 kids text i k below = numbered (i + 1) k (spelled_by text below)
 
 -- the role of the element at `i`, by its own annotation
-abbrev pub Reads : List Element → ℕ → Role → Type 0
+abbrev pub Reads : List Element → ℕ → Result Role Refusal → Type 0
 Reads table i role =
     (e : Element) (below next : Forest Element) → Stands table i (plant e below next)
     → (text : List ℕ) (k : ℕ) → by_annotation i e.kind (or_required e.repetition) (kids text i k below) ≡ role

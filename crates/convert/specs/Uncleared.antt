@@ -1,6 +1,7 @@
 -- What a conversion comes to before its tables are cleared past what is used.
 use Rattle.std.specs.Prelude.{◌≡◌, ℕ, ◌-◌, Bool, true, false, List, ◌++◌, map, length, take, replicate, Ok, Err, Result}
 use Rattle.std.specs.List.{range_with_len}
+use Rattle.std.specs.Result.{result_unwrap_or}
 use Rattle.tree.specs.Forest.{Forest, Lists}
 use Rattle.schema.specs.declared.refusal.Refusal.{Refusal}
 use Rattle.schema.specs.declared.refusal.Refusal.TheVariants as no
@@ -14,13 +15,9 @@ use Rattle.walk.specs.Walk.{walk_under}
 use Rattle.promise.specs.Conversion.{Conversion, HintKept, counted, empty_row, kept, leaves, short_table}
 use Rattle.convert.specs.Root.{Front}
 
--- how many rows are used
-abbrev pub used_of : Result ℕ Refusal → ℕ
-used_of (Ok n) = n
-used_of (Err e) = 0
-
+-- past the rows that are used, rows are empty
 abbrev pub rows_after : Result ℕ Refusal → List ResultRow → List ResultRow
-rows_after r rows = take (used_of r) rows ++ replicate (length rows - used_of r) empty_row
+rows_after r rows = take (result_unwrap_or r 0) rows ++ replicate (length rows - result_unwrap_or r 0) empty_row
 
 -- refused, no flag is left
 abbrev pub flags_after : Result ℕ Refusal → List Bool → List Bool

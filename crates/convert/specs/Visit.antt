@@ -63,7 +63,7 @@ pub record Seats (s : Input) (c : Seat) (t : Told) : Type 0 where
   pub unnamed : t.named ≡ false
 
 -- what the tree at `i` gives, read by a role
-abbrev pub gives_as : Input → Role → ℕ → ℕ → Seat → Told → Element → Forest Element → Outcome
+abbrev pub gives_as : Input → Result Role Refusal → ℕ → ℕ → Seat → Told → Element → Forest Element → Outcome
 gives_as s role i k c t e below =
     outcome (typing_of s.hints s.text) (in_flags s.flags) c.levels c.null_above
     (told_tree t role (label s.names i k e) (kids s.names i k below))

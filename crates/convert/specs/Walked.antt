@@ -44,13 +44,13 @@ field_told named key hs x = record {
 }
 
 -- what a field or a key at `i` gives, read by a role
-abbrev pub field_as : Input → Role → ℕ → ℕ → Levels → Bool → Bool → Forest Hint → Element → Forest Element → Outcome
+abbrev pub field_as : Input → Result Role Refusal → ℕ → ℕ → Levels → Bool → Bool → Forest Hint → Element → Forest Element → Outcome
 field_as s role i k v named key hs e below =
     outcome (typing_of s.hints s.text) (in_flags s.flags) v false
     (told_tree (field_told named key hs (label s.names i k e)) role (label s.names i k e) (kids s.names i k below))
 
 -- by its own annotation
-abbrev pub own_role : Input → ℕ → ℕ → Element → Forest Element → Role
+abbrev pub own_role : Input → ℕ → ℕ → Element → Forest Element → Result Role Refusal
 own_role s i k e below = by_annotation i e.kind (or_required e.repetition) (kids s.names i k below)
 
 abbrev pub gives_field : Input → ℕ → ℕ → Levels → Bool → Bool → Forest Hint → Element → Forest Element → Outcome
@@ -89,10 +89,10 @@ pub record ReadyBelow (table : List Element) (i : ℕ) (v : Levels) (start : Cur
 abbrev pub Visits : Input → ℕ → Seat → Cursor → List ResultRow → List ResultRow → Result Cursor Refusal → Type 0
 Visits s i c start before after r =
     (e : Element) (below next : Forest Element) → Stands s.elements i (plant e below next) → (t : Told) → Seats s c t
-    → Meets s.names (gives_as s own i start.leaf c t e below) start.row (next_leaf s.names start.leaf e below) before after r
+    → Meets s.names (gives_as s (Ok own) i start.leaf c t e below) start.row (next_leaf s.names start.leaf e below) before after r
 
 -- of the field or key at `i`, read by a role, its name aside
-abbrev pub VisitsAs : Role → Input → ℕ → Task → Cursor → List ResultRow → List ResultRow → Result Cursor Refusal → Type 0
+abbrev pub VisitsAs : Result Role Refusal → Input → ℕ → Task → Cursor → List ResultRow → List ResultRow → Result Cursor Refusal → Type 0
 VisitsAs role s i c start before after r =
     (e : Element) (below next : Forest Element) → Stands s.elements i (plant e below next) → (hs : Forest Hint) → Hinted s.hints s.text c.hint hs
     → Meets s.names (field_as s role i start.leaf c.levels false c.key hs e below) start.row (next_leaf s.names start.leaf e below) before after r
@@ -166,5 +166,5 @@ abbrev pub entries_told : Bool → Forest Hint → Numbered → Told
 entries_told key hs x = record { part = as_entries; holder = group_holder key x; field = hs; hint = sole (inside hs); named = false }
 
 -- the row of a list or map, that of the repeated child y
-abbrev pub items_full : Typing → Told → Role → Items → Numbered → Levels → Bool → Full
+abbrev pub items_full : Typing → Told → Result Role Refusal → Items → Numbered → Levels → Bool → Full
 items_full typing t role i y v null = full_of typing (record { label = told_label t role y; inner = false; row = record { kind = items_row i; levels = v; nullable = null } })

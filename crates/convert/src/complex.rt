@@ -1,5 +1,5 @@
 // The walk over a schema: one visit for each kind of element.
-ghost use Rattle.std.specs.Prelude.{◌≡◌, ℕ, ◌+◌, ◌*◌, ◌^◌, ◌<◌, ◌≤◌, false, length, Option};
+ghost use Rattle.std.specs.Prelude.{◌≡◌, ℕ, ◌+◌, ◌*◌, ◌^◌, ◌<◌, ◌≤◌, false, length, Option, Ok};
 ghost use Rattle.tree.specs.Forest.{Forest, Lists};
 ghost use Rattle.schema.specs.declared.element.Kind.TheVariants.{Leaf as LeafKind, Group as GroupKind};
 ghost use Rattle.walk.specs.declared.role.Role.TheVariants.{Own as OwnRole, Listed as ListedRole, Mapped as MappedRole, Middle as MiddleRole, Entries as EntriesRole};
@@ -24,8 +24,8 @@ ghost use Rattle.convert.specs.Visit.{Meets, Seats, read_by, gives_as};
 
 use crate::context::{Cursor, Seat, Source, Task};
 use crate::hints::{
-    first_hint, fits_list, fits_map, fits_struct, has_children, has_name, hint_number, is_over_two,
-    is_sorted, list_kind, metadata_of, next_hint, unwrap_hint,
+    first_hint, fits, has_children, has_name, hint_number, is_any_list, is_map, is_over_two,
+    is_sorted, is_struct, list_kind, metadata_of, next_hint, unwrap_hint,
 };
 use crate::reading::{count_children, is_element, is_optional, role_at};
 use crate::rows::{close, close_struct, head_of, is_chosen, is_wrapped, raise, write_leaf};
@@ -48,7 +48,7 @@ pub(crate) fn visit_primitive(
     requires few { from.leaf + 1 < 2 ^ 64 }
     requires shallow { (seat.levels.rep < 65535) × (seat.levels.def < 65535) }
     requires kind { element.kind ≡ LeafKind leaf }
-    ensures { (t : Told) (below : Forest Element) → Seats (read_by source.entry) seat t → Meets (read_by source.entry).names (gives_as (read_by source.entry) OwnRole at from.leaf seat t element below) from.row (from.leaf + 1) rows.old rows.new result }
+    ensures { (t : Told) (below : Forest Element) → Seats (read_by source.entry) seat t → Meets (read_by source.entry).names (gives_as (read_by source.entry) (Ok OwnRole) at from.leaf seat t element below) from.row (from.leaf + 1) rows.old rows.new result }
 {
     if !is_chosen(source.chosen, from.leaf) {
         return Ok(Cursor {
@@ -92,7 +92,7 @@ fn check_struct(source: Source, at: usize, hint: Option<usize>) -> Result<(), Re
     requires hints { WholeHints (read_by source).hints }
     ensures { (e : Element) (below next : Forest Element) → Stands (read_by source.entry).elements at (plant e below next) → (hs : Forest Hint) → Hinted (read_by source.entry).hints (read_by source.entry).text hint hs → Passes (struct_checks at hs (trees below)) result }
 {
-    if !fits_struct(source.hints, hint) {
+    if !fits(source.hints, hint, is_struct) {
         return Err(Refusal::HintKind(at));
     }
     let fields = count_children(source.elements, at);
@@ -126,7 +126,7 @@ fn check_map(source: Source, at: usize, hint: Option<usize>) -> Result<(), Refus
     requires hints { WholeHints (read_by source).hints }
     ensures { (hs : Forest Hint) → Hinted (read_by source.entry).hints (read_by source.entry).text hint hs → Passes (map_checks at hs) result }
 {
-    if !fits_map(source.hints, hint) {
+    if !fits(source.hints, hint, is_map) {
         return Err(Refusal::HintKind(at));
     }
     if !is_over_two(source.hints, hint) {
@@ -166,7 +166,7 @@ fn group_field(source: Source, group: Element, task: Task) -> Field
 
 // The row of a list whose element is the one child of the group's repeated child.
 fn middle_row(source: Source, group: Element, task: Task, levels: Levels) -> ResultRow
-    ensures { (i k : ℕ) (hs : Forest Hint) → Hinted (read_by source.entry).hints (read_by source.entry).text task.hint hs → (typing : Typing) (y : Numbered) → shown_row (read_by source.entry).names result ≡ items_full typing (middle_told task.key hs (label (read_by source.entry).names i k group)) MiddleRole of_list y levels (is_optional (or_required group.repetition)) }
+    ensures { (i k : ℕ) (hs : Forest Hint) → Hinted (read_by source.entry).hints (read_by source.entry).text task.hint hs → (typing : Typing) (y : Numbered) → shown_row (read_by source.entry).names result ≡ items_full typing (middle_told task.key hs (label (read_by source.entry).names i k group)) (Ok MiddleRole) of_list y levels (is_optional (or_required group.repetition)) }
 {
     ResultRow {
         rep_level: levels.rep,
@@ -181,6 +181,7 @@ fn middle_row(source: Source, group: Element, task: Task, levels: Levels) -> Res
 }
 
 // The row of a map of key and value, whose entries are the group's repeated child.
+#[tactic(auto, using(crate::proofs::Handing::left_sole, crate::proofs::Grouped::map_shown))]
 fn map_row(
     source: Source,
     group: Element,
@@ -188,7 +189,7 @@ fn map_row(
     task: Task,
     levels: Levels,
 ) -> ResultRow
-    ensures { (i j k : ℕ) (hs : Forest Hint) → Hinted (read_by source.entry).hints (read_by source.entry).text task.hint hs → (typing : Typing) → shown_row (read_by source.entry).names result ≡ items_full typing (entries_told task.key hs (label (read_by source.entry).names i k group)) EntriesRole of_map (label (read_by source.entry).names j k entries) levels (is_optional (or_required group.repetition)) }
+    ensures { (i j k : ℕ) (hs : Forest Hint) → Hinted (read_by source.entry).hints (read_by source.entry).text task.hint hs → (typing : Typing) → shown_row (read_by source.entry).names result ≡ items_full typing (entries_told task.key hs (label (read_by source.entry).names i k group)) (Ok EntriesRole) of_map (label (read_by source.entry).names j k entries) levels (is_optional (or_required group.repetition)) }
 {
     let inner = first_hint(source.hints, task.hint);
     ResultRow {
@@ -300,10 +301,10 @@ fn visit_list(
     requires ready { Ready (read_by source).elements at task.levels from (length rows.old) }
     requires hints { WholeHints (read_by source).hints }
     requires hinted { HasHint (read_by source) task.hint }
-    requires reads { Reads (read_by source).elements at ListedRole }
-    ensures { VisitsAs ListedRole (read_by source.entry) at task from rows.old rows.new result }
+    requires reads { Reads (read_by source).elements at (Ok ListedRole) }
+    ensures { VisitsAs (Ok ListedRole) (read_by source.entry) at task from rows.old rows.new result }
 {
-    if !fits_list(source.hints, task.hint) {
+    if !fits(source.hints, task.hint, is_any_list) {
         return Err(Refusal::HintKind(at));
     }
     let group = source.elements[at];
@@ -341,8 +342,8 @@ fn visit_map(
     requires ready { Ready (read_by source).elements at task.levels from (length rows.old) }
     requires hints { WholeHints (read_by source).hints }
     requires hinted { HasHint (read_by source) task.hint }
-    requires reads { Reads (read_by source).elements at MappedRole }
-    ensures { VisitsAs MappedRole (read_by source.entry) at task from rows.old rows.new result }
+    requires reads { Reads (read_by source).elements at (Ok MappedRole) }
+    ensures { VisitsAs (Ok MappedRole) (read_by source.entry) at task from rows.old rows.new result }
 {
     check_map(source, at, task.hint)?;
     let group = source.elements[at];
@@ -400,11 +401,10 @@ fn dispatch(
 {
     let element = source.elements[at];
     check_name(source, at, element, task)?;
-    match role_at(source.elements, at) {
+    match role_at(source.elements, at)? {
         Role::Own => visit_own(source, at, field_seat(source, element, task), from, rows),
         Role::Listed => visit_list(source, at, task, from, rows),
         Role::Mapped => visit_map(source, at, task, from, rows),
-        Role::Broken(refusal) => Err(refusal),
         Role::Middle | Role::Entries => unreachable(),
     }
 }

@@ -1,12 +1,11 @@
 // What the walk asks of hint rows.
-ghost use Rattle.std.specs.Prelude.{◌≡◌, ℕ, ◌&&◌, List};
+ghost use Rattle.std.specs.Prelude.{◌≡◌, ℕ, Bool, ◌&&◌, List};
 ghost use Rattle.tree.specs.Forest.{Forest};
-ghost use Rattle.walk.specs.Hints.{Hint, inside, others, nesting, plain_list, any_list, any_struct, any_map, fits, has_children, over_two};
+ghost use Rattle.walk.specs.Hints.{Hint, inside, others, nesting, plain_list, any_list, any_struct, any_map, fits, has_children, over_two, Nesting};
 ghost use Rattle.walk.specs.Forests.{planted};
 ghost use Rattle.walk.specs.Walk.{by_number, by_id, metadata_of, hinted_list, sorted_in, hinted_sorted, hinted_number};
 ghost use Rattle.convert.specs.Handed.{Hinted, HintsLeft, Sees, Unwrapped, WholeHints, named_as};
 
-use crate::reading::same;
 use arrow::{ArrowType, HintRow, Metadata};
 use schema::Refusal;
 use tree::FlatTree;
@@ -15,29 +14,19 @@ use tree::FlatTree;
 pub(crate) fn hint_row(hints: &[HintRow], hint: Option<usize>) -> Option<HintRow>
     ensures { (bytes : List ℕ) (hs : Forest Hint) → Hinted hints.now bytes hint hs → Sees bytes result hs }
 {
-    match hint {
-        None => None,
-        Some(row) => {
-            if row < hints.len() {
-                Some(hints[row])
-            } else {
-                None
-            }
-        }
-    }
+    hints.get(hint?).copied()
 }
 
 // The first of a hint's children.
+#[tactic(auto, using(crate::proofs::Handing::first_left))]
 pub(crate) fn first_hint(hints: &[HintRow], parent: Option<usize>) -> Option<usize>
     ensures { (bytes : List ℕ) (hs : Forest Hint) → Hinted hints.now bytes parent hs → HintsLeft hints.now bytes parent result (inside hs) }
 {
-    match parent {
-        None => None,
-        Some(row) => FlatTree::new(hints).first_child(row),
-    }
+    FlatTree::new(hints).first_child(parent?)
 }
 
 // The child of a hint that comes after another.
+#[tactic(auto, using(crate::proofs::Handing::next_left))]
 pub(crate) fn next_hint(
     hints: &[HintRow],
     hint: Option<usize>,
@@ -45,13 +34,7 @@ pub(crate) fn next_hint(
 ) -> Option<usize>
     ensures { (bytes : List ℕ) (hs : Forest Hint) → HintsLeft hints.now bytes parent hint hs → HintsLeft hints.now bytes parent result (others hs) }
 {
-    match hint {
-        None => None,
-        Some(row) => match parent {
-            None => None,
-            Some(above) => FlatTree::new(hints).next_sibling(row, above),
-        },
-    }
+    FlatTree::new(hints).next_sibling(hint?, parent?)
 }
 
 fn is_plain_list(data_type: ArrowType) -> bool
@@ -63,7 +46,7 @@ fn is_plain_list(data_type: ArrowType) -> bool
     )
 }
 
-fn is_any_list(data_type: ArrowType) -> bool
+pub(crate) fn is_any_list(data_type: ArrowType) -> bool
     ensures { result ≡ any_list (nesting data_type) }
 {
     matches!(
@@ -76,56 +59,28 @@ fn is_any_list(data_type: ArrowType) -> bool
     )
 }
 
-fn is_struct(data_type: ArrowType) -> bool
+pub(crate) fn is_struct(data_type: ArrowType) -> bool
     ensures { result ≡ any_struct (nesting data_type) }
 {
     matches!(data_type, ArrowType::Struct)
 }
 
-fn is_map(data_type: ArrowType) -> bool
+pub(crate) fn is_map(data_type: ArrowType) -> bool
     ensures { result ≡ any_map (nesting data_type) }
 {
     matches!(data_type, ArrowType::Map(_))
 }
 
-// Whether a hint is absent, or one of the kinds that a list of an element's own may take.
-fn fits_plain_list(hints: &[HintRow], hint: Option<usize>) -> bool
-    ensures { (bytes : List ℕ) (hs : Forest Hint) → Hinted hints.now bytes hint hs → result ≡ fits plain_list hs }
+// Whether a hint is absent, or of a type that meets the test.
+pub(crate) fn fits<F: Fn(ArrowType) -> bool>(
+    hints: &[HintRow],
+    hint: Option<usize>,
+    test: F,
+) -> bool
+    requires { F.IsAlwaysCallable test }
+    ensures { (bytes : List ℕ) (hs : Forest Hint) → Hinted hints.now bytes hint hs → (kind : Nesting → Bool) → ((t : ArrowType) (b : Bool) → F.post test t b → b ≡ kind (nesting t)) → result ≡ fits kind hs }
 {
-    match hint_row(hints, hint) {
-        None => true,
-        Some(row) => is_plain_list(row.data_type),
-    }
-}
-
-// Whether a hint is absent, or a list.
-pub(crate) fn fits_list(hints: &[HintRow], hint: Option<usize>) -> bool
-    ensures { (bytes : List ℕ) (hs : Forest Hint) → Hinted hints.now bytes hint hs → result ≡ fits any_list hs }
-{
-    match hint_row(hints, hint) {
-        None => true,
-        Some(row) => is_any_list(row.data_type),
-    }
-}
-
-// Whether a hint is absent, or a struct.
-pub(crate) fn fits_struct(hints: &[HintRow], hint: Option<usize>) -> bool
-    ensures { (bytes : List ℕ) (hs : Forest Hint) → Hinted hints.now bytes hint hs → result ≡ fits any_struct hs }
-{
-    match hint_row(hints, hint) {
-        None => true,
-        Some(row) => is_struct(row.data_type),
-    }
-}
-
-// Whether a hint is absent, or a map.
-pub(crate) fn fits_map(hints: &[HintRow], hint: Option<usize>) -> bool
-    ensures { (bytes : List ℕ) (hs : Forest Hint) → Hinted hints.now bytes hint hs → result ≡ fits any_map hs }
-{
-    match hint_row(hints, hint) {
-        None => true,
-        Some(row) => is_map(row.data_type),
-    }
+    hint_row(hints, hint).is_none_or(|row| test(row.data_type))
 }
 
 // The hint's kind of list, and List without one.
@@ -133,14 +88,8 @@ pub(crate) fn list_kind(hints: &[HintRow], hint: Option<usize>) -> ArrowType
     ensures { (bytes : List ℕ) (hs : Forest Hint) → Hinted hints.now bytes hint hs → result ≡ hinted_list hs }
 {
     match hint_row(hints, hint) {
-        None => ArrowType::List,
-        Some(row) => {
-            if is_any_list(row.data_type) {
-                row.data_type
-            } else {
-                ArrowType::List
-            }
-        }
+        Some(row) if is_any_list(row.data_type) => row.data_type,
+        _ => ArrowType::List,
     }
 }
 
@@ -184,7 +133,7 @@ pub(crate) fn unwrap_hint(
     if !wrapped {
         return Ok(hint);
     }
-    if !fits_plain_list(hints, hint) {
+    if !fits(hints, hint, is_plain_list) {
         return Err(Refusal::HintKind(at));
     }
     Ok(first_hint(hints, hint))
@@ -195,49 +144,34 @@ pub(crate) fn has_children(hints: &[HintRow], hint: Option<usize>, count: usize)
     requires { WholeHints hints.now }
     ensures { (bytes : List ℕ) (hs : Forest Hint) → Hinted hints.now bytes hint hs → result ≡ has_children count hs }
 {
-    match hint {
-        None => true,
-        Some(row) => FlatTree::new(hints).count_children(row) == count,
-    }
+    hint.is_none_or(|row| FlatTree::new(hints).count_children(row) == count)
 }
 
 // Whether a hint is absent, or has this name.
 pub(crate) fn has_name(hints: &[HintRow], text: &[u8], hint: Option<usize>, name: &[u8]) -> bool
     ensures { (hs : Forest Hint) → Hinted hints.now text.now hint hs → result ≡ named_as name.now hs }
 {
-    match hint_row(hints, hint) {
-        None => true,
-        Some(row) => same(row.name.bytes_in(text), name),
-    }
+    hint_row(hints, hint).is_none_or(|row| row.name.bytes_in(text) == name)
 }
 
 fn sorted_in(data_type: ArrowType) -> bool
     ensures { result ≡ sorted_in (nesting data_type) }
 {
-    match data_type {
-        ArrowType::Map(sorted) => sorted,
-        _ => false,
-    }
+    matches!(data_type, ArrowType::Map(true))
 }
 
 // Whether a map's keys are sorted: the hint says so.
 pub(crate) fn is_sorted(hints: &[HintRow], hint: Option<usize>) -> bool
     ensures { (bytes : List ℕ) (hs : Forest Hint) → Hinted hints.now bytes hint hs → result ≡ hinted_sorted hs }
 {
-    match hint_row(hints, hint) {
-        None => false,
-        Some(row) => sorted_in(row.data_type),
-    }
+    hint_row(hints, hint).is_some_and(|row| sorted_in(row.data_type))
 }
 
 // A hint's metadata number; 0 without a hint.
 pub(crate) fn hint_number(hints: &[HintRow], hint: Option<usize>) -> u32
     ensures { (bytes : List ℕ) (hs : Forest Hint) → Hinted hints.now bytes hint hs → result ≡ hinted_number hs }
 {
-    match hint_row(hints, hint) {
-        None => 0,
-        Some(row) => row.metadata,
-    }
+    hint_row(hints, hint).map_or(0, |row| row.metadata)
 }
 
 // Whether there is a hint, a struct of two.
@@ -245,24 +179,15 @@ fn is_struct_of_two(hints: &[HintRow], hint: Option<usize>) -> bool
     requires { WholeHints hints.now }
     ensures { (bytes : List ℕ) (hs : Forest Hint) → Hinted hints.now bytes hint hs → result ≡ (planted hs && (fits any_struct hs && has_children 2 hs)) }
 {
-    match hint_row(hints, hint) {
-        None => false,
-        Some(row) => {
-            if !is_struct(row.data_type) {
-                return false;
-            }
-            has_children(hints, hint, 2)
-        }
-    }
+    hint_row(hints, hint).is_some_and(|row| is_struct(row.data_type))
+        && has_children(hints, hint, 2)
 }
 
 // Whether a hint is absent, or over a struct of two.
+#[tactic(auto, using(crate::proofs::Handing::left_sole, crate::proofs::Handing::over_by))]
 pub(crate) fn is_over_two(hints: &[HintRow], hint: Option<usize>) -> bool
     requires { WholeHints hints.now }
     ensures { (bytes : List ℕ) (hs : Forest Hint) → Hinted hints.now bytes hint hs → result ≡ over_two hs }
 {
-    match hint {
-        None => true,
-        Some(_) => is_struct_of_two(hints, first_hint(hints, hint)),
-    }
+    hint.is_none() || is_struct_of_two(hints, first_hint(hints, hint))
 }

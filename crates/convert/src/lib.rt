@@ -2,6 +2,7 @@
 #![tactic(auto)]
 
 ghost use Rattle.std.specs.Prelude.{◌≡◌, ℕ, ◌-◌, ◌*◌, ◌≤◌, List, ◌++◌, length, take, replicate};
+ghost use Rattle.std.specs.Result.{result_unwrap_or};
 ghost use Rattle.schema.specs.Reach.{Reached, whole};
 ghost use Rattle.schema.specs.Rows.{IsFinished};
 ghost use Rattle.schema.specs.Words.{Event};
@@ -9,7 +10,7 @@ ghost use Rattle.promise.specs.Conversion.{Converts, conversion, empty_row};
 ghost use Rattle.promise.specs.Promise.{Promised};
 ghost use Rattle.convert.specs.Handed.{WholeHints};
 ghost use Rattle.convert.specs.Root.{Walks};
-ghost use Rattle.convert.specs.Uncleared.{Uncleared, flags_after, used_of};
+ghost use Rattle.convert.specs.Uncleared.{Uncleared};
 
 mod complex;
 mod context;
@@ -43,7 +44,7 @@ fn walk_elements<'a>(
     requires finished { (bytes : ℕ) × IsFinished bytes elements.now }
     requires hints { WholeHints hints.now }
     requires room { 2 * length elements.now ≤ length rows.old }
-    ensures fits { used_of result ≤ length rows.new }
+    ensures fits { result_unwrap_or result 0 ≤ length rows.new }
     ensures walks { Walks (record { elements = elements.entry.now; names = names.now; hints = hints.now; text = text.now; flags = chosen.now }) rows.new result }
 {
     let source = Source {
@@ -66,7 +67,7 @@ fn walk_schema<S: Selection>(
     rows: &mut [ResultRow],
     chosen: &mut [bool],
 ) -> Result<usize, Refusal>
-    ensures fits { used_of result ≤ length rows.new }
+    ensures fits { result_unwrap_or result 0 ≤ length rows.new }
     ensures walked { Uncleared (conversion schema.now elements.now names.now (S.Selection.chosen selection.now) hints.entry.rows.now hints.entry.text.now (length rows.old) (length chosen.old) result rows.new chosen.new) }
 {
     if !schema.check(elements, names) {
@@ -82,32 +83,6 @@ fn walk_schema<S: Selection>(
     let counted = &elements[0..count];
     choose(selection, count_leaves(counted), chosen)?;
     walk_elements(counted, names, hints.rows, hints.text, chosen, rows)
-}
-
-// How many rows are used.
-fn used(outcome: &Result<usize, Refusal>) -> usize
-    ensures { result ≡ used_of outcome.now }
-{
-    match outcome {
-        Ok(count) => *count,
-        Err(_) => 0,
-    }
-}
-
-fn clear_rows(rows: &mut [ResultRow], from: usize)
-    requires { from ≤ length rows.old }
-    ensures { rows.new ≡ take from rows.old ++ replicate (length rows.old - from) empty_row }
-{
-    rows[from..].fill(ResultRow::EMPTY);
-}
-
-// Refused, no flag is left.
-fn clear_flags(outcome: &Result<usize, Refusal>, chosen: &mut [bool])
-    ensures { chosen.new ≡ flags_after outcome.now chosen.old }
-{
-    if outcome.is_err() {
-        chosen.fill(false);
-    }
 }
 
 // Converts a finished schema into the rows of its Arrow field tree, for the leaves that the selection chooses and under the hint, if any.
@@ -130,7 +105,9 @@ pub fn convert<S: Selection>(
     ensures promise { (h : List Event) → Reached h (whole schema.now) elements.now names.now → Promised h (conversion schema.now elements.now names.now (S.Selection.chosen selection.now) hints.entry.rows.now hints.entry.text.now (length rows.old) (length chosen.old) result rows.new chosen.new) }
 {
     let outcome = walk_schema(schema, elements, names, selection, hints, rows, chosen);
-    clear_rows(rows, used(&outcome));
-    clear_flags(&outcome, chosen);
+    rows[outcome.unwrap_or(0)..].fill(ResultRow::EMPTY);
+    if outcome.is_err() {
+        chosen.fill(false);
+    }
     outcome
 }

@@ -25,8 +25,8 @@ pub(crate) fn raise(levels: Levels, element: Element) -> Levels
 {
     match element.repetition {
         Some(Repetition::Optional) => Levels {
-            rep: levels.rep,
             def: levels.def + 1,
+            ..levels
         },
         Some(Repetition::Repeated) => Levels {
             rep: levels.rep + 1,
@@ -80,6 +80,7 @@ fn outer_field(seat: Seat, nullable: bool) -> Field
 }
 
 // The metadata of the inner of an element's two rows.
+#[tactic(auto, using(crate::proofs::Handing::left_sole))]
 fn inner_metadata(hints: &[HintRow], seat: Seat) -> Option<Metadata>
     ensures { (bytes : List ℕ) (hs : Forest Hint) → Hinted hints.now bytes seat.hint hs → result ≡ inner_of seat.element hs }
 {
@@ -182,11 +183,7 @@ pub(crate) fn head_of(element: Element, start: usize) -> usize
     requires { start + 1 < 2 ^ 64 }
     ensures { result ≡ start + (if is_repeated (or_required element.repetition) then 1 else 0) }
 {
-    if is_repeated(element) {
-        start + 1
-    } else {
-        start
-    }
+    start + usize::from(is_repeated(element))
 }
 
 // Puts a struct's row round its fields' rows, and a list round it where it is repeated.

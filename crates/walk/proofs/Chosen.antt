@@ -1,5 +1,5 @@
 -- Only the choice of the schema's own leaves plays a part.
-use Rattle.std.proofs.Common.{◌≡◌, ℕ, ◌+◌, ◌<◌, ◌≤◌, Bool, true, false, cond, ◌&&◌, ◌||◌, List, [], ◌++◌, sym, refl, ap, ◌∙◌, subst, ap₂, arith}
+use Rattle.std.proofs.Common.{◌≡◌, ℕ, ◌+◌, ◌<◌, ◌≤◌, Bool, true, false, cond, ◌&&◌, ◌||◌, List, [], ◌++◌, sym, refl, ap, ◌∙◌, subst, ap₂, arith, Ok, Err, Result}
 use Rattle.walk.specs.Faults.{Typing, below_group, leaf_hint, name_checks, own_checks, refusals, type_checks, wrap_checks}
 use Rattle.walk.specs.Forests.{beside, over, relabel, trees}
 use Rattle.walk.specs.Handing.{compares_names, field_hint, hands_on, hinting, wrapped}
@@ -14,7 +14,7 @@ use Rattle.walk.specs.Walk.{full_of, handed, unless_refused}
 use Rattle.walk.specs.Yields.{both_yield, every_yield, some_yield, yields_by}
 use Rattle.walk.specs.declared.levels.Levels.{Levels}
 use Rattle.walk.specs.declared.role.Role.{Role}
-use Rattle.walk.specs.declared.role.Role.TheVariants.{Broken as broken, Entries as entries, Listed as listed, Mapped as mapped, Middle as middle, Own as own}
+use Rattle.walk.specs.declared.role.Role.TheVariants.{Entries as entries, Listed as listed, Mapped as mapped, Middle as middle, Own as own}
 use Rattle.schema.specs.Words.{Spelled}
 use Rattle.schema.specs.declared.basic.Repetition.{Repetition}
 use Rattle.schema.specs.declared.element.Kind.{Kind}
@@ -28,14 +28,14 @@ module _ (a b : ℕ → Bool) where
   Agree bare = Unit {0}
   Agree (plant x below after) = (is_leaf x.of.kind ≡ true → a x.of.leaf_number ≡ b x.of.leaf_number) × Agree below × Agree after
 
-  yields_agree : (k : Kind) (role : Role) (l : ℕ) (s z : Bool) → (is_leaf k ≡ true → a l ≡ b l) → yields_by a k role l s z ≡ yields_by b k role l s z
+  yields_agree : (k : Kind) (role : Result Role Refusal) (l : ℕ) (s z : Bool) → (is_leaf k ≡ true → a l ≡ b l) → yields_by a k role l s z ≡ yields_by b k role l s z
   yields_agree (leaf c) role l s z h = h refl
-  yields_agree (group n) own l s z h = refl
-  yields_agree (group n) listed l s z h = refl
-  yields_agree (group n) middle l s z h = refl
-  yields_agree (group n) mapped l s z h = refl
-  yields_agree (group n) entries l s z h = refl
-  yields_agree (group n) (broken r) l s z h = refl
+  yields_agree (group n) (Ok own) l s z h = refl
+  yields_agree (group n) (Ok listed) l s z h = refl
+  yields_agree (group n) (Ok middle) l s z h = refl
+  yields_agree (group n) (Ok mapped) l s z h = refl
+  yields_agree (group n) (Ok entries) l s z h = refl
+  yields_agree (group n) (Err r) l s z h = refl
 
   one_agree : (x : Read) (s t z w : Bool) → (is_leaf x.of.kind ≡ true → a x.of.leaf_number ≡ b x.of.leaf_number) → s ≡ t → z ≡ w
       → yields_by a x.of.kind x.role x.of.leaf_number s z ≡ yields_by b x.of.kind x.role x.of.leaf_number t w
@@ -62,7 +62,7 @@ module _ (a b : ℕ → Bool) where
         (one_agree x (some_yield a below) (some_yield b below) (both_yield a below) (both_yield b below) h.0 (some_agree below h.1) (both_agree below h.1))
         (every_agree after h.2)
 
-  rows_agree : (k : Kind) (x : Read) (role : Role) (r : Repetition) (v : Levels) (p s t : Bool) (f g : Forest Made)
+  rows_agree : (k : Kind) (x : Read) (role : Result Role Refusal) (r : Repetition) (v : Levels) (p s t : Bool) (f g : Forest Made)
       → (is_leaf k ≡ true → a x.of.leaf_number ≡ b x.of.leaf_number) → s ≡ t → f ≡ g
       → element_rows a k x role r v p s f ≡ element_rows b k x role r v p t g
   rows_agree (leaf c) x role r v p s t f g h e k = ap (λ (z : Bool). over (wrap x of_list r v p) (leaf_part z x r v)) (h refl)

@@ -1,5 +1,5 @@
 -- The first of what the roles and checks refuse is the first fault.
-use Rattle.std.proofs.Common.{◌≡◌, ℕ, Bool, true, false, cond, not, ◌&&◌, ◌||◌, eqb, List, [], ◌∷◌, ◌++◌, Some, None, Option, sym, refl, ap, ◌∙◌, subst, ap₂}
+use Rattle.std.proofs.Common.{◌≡◌, ℕ, Bool, true, false, cond, not, ◌&&◌, ◌||◌, eqb, List, [], ◌∷◌, ◌++◌, Some, None, Option, sym, refl, ap, ◌∙◌, subst, ap₂, Ok, Err, Result}
 use Rattle.std.specs.Str.{bytes_eq}
 use Rattle.arrow.specs.declared.types.ArrowType.{ArrowType}
 use Rattle.walk.specs.Faults.{Typing, checks, group_checks, leaf_hint, map_checks, name_checks, own_checks, struct_checks, type_checks, unless, wrap_checks}
@@ -11,7 +11,7 @@ use Rattle.walk.specs.Reading.{Part, Read, by_annotation, entries_role, list_chi
 use Rattle.walk.specs.Reading.Part.{as_element, as_entries, as_field, as_key, as_middle, as_root}
 use Rattle.walk.specs.Refusing.{by_itself, faults_at, group_faults, hint_faults, list_faults, map_faults, miscounted, misnamed, no_such, not_over_two, repeated_group, repeated_label, rule_faults, struct_faults, untyped, when}
 use Rattle.walk.specs.declared.role.Role.{Role}
-use Rattle.walk.specs.declared.role.Role.TheVariants.{Broken as broken, Listed as listed, Mapped as mapped, Own as own}
+use Rattle.walk.specs.declared.role.Role.TheVariants.{Listed as listed, Mapped as mapped, Own as own}
 use Rattle.schema.specs.declared.basic.Annotation.{Annotation}
 use Rattle.schema.specs.declared.basic.Repetition.{Repetition}
 use Rattle.schema.specs.declared.element.Kind.{Kind}
@@ -73,7 +73,7 @@ map_first : (e : ℕ) (hint : Forest Hint)
 map_first e bare = refl
 map_first e (plant h below after) = two_first (any_map (nesting h.type)) (over_two (plant h below after)) (no.HintKind e) (no.HintMap e)
 
-own_first : (e : ℕ) (w : Bool) (hint : Forest Hint) (n : ℕ) → head (group_checks e own w hint n) ≡ head (struct_faults e w hint n)
+own_first : (e : ℕ) (w : Bool) (hint : Forest Hint) (n : ℕ) → head (group_checks e (Ok own) w hint n) ≡ head (struct_faults e w hint n)
 own_first e w hint n =
     heads (wrap_checks e w hint) (when (w && no_such plain_list hint) (no.HintKind e)) (struct_checks e (unwrap w hint) n)
     (when (no_such any_struct (unwrap w hint)) (no.HintKind e) ++ when (miscounted n (unwrap w hint)) (no.HintFieldCount e))
@@ -81,10 +81,10 @@ own_first e w hint n =
 
 module _ (e : ℕ) (rep : Repetition) (w : Bool) (hint : Forest Hint) (n : ℕ) where
   -- the role's own refusal, or that of its hint, against the faults of the rules and of the hint
-  abbrev Firsts : List Refusal → Role → Type 0
+  abbrev Firsts : List Refusal → Result Role Refusal → Type 0
   Firsts rules role = head (group_checks e role w hint n) ≡ head (rules ++ group_faults e role w hint n)
 
-  listed_first : Firsts [] listed
+  listed_first : Firsts [] (Ok listed)
   listed_first = ap head (fits_when any_list hint (no.HintKind e))
 
   list_first : (below : Forest Read) → Firsts (list_faults e rep below) (list_role e rep (relabel of_label below))
@@ -105,7 +105,7 @@ module _ (e : ℕ) (rep : Repetition) (w : Bool) (hint : Forest Hint) (n : ℕ) 
   entries_first (plant k kb (plant v vb (plant u ub after))) = refl
   entries_first (plant k kb (plant v vb bare)) = go (repeated_label k) (repeated_label v)
     where
-      go : (a b : Bool) → Firsts ([] ++ when (a || (b || false)) (no.EntryRepeated e)) (cond (a || b) (broken (no.EntryRepeated e)) mapped)
+      go : (a b : Bool) → Firsts ([] ++ when (a || (b || false)) (no.EntryRepeated e)) (cond (a || b) (Err (no.EntryRepeated e)) (Ok mapped))
       go true b = refl
       go false true = refl
       go false false = map_first e hint
@@ -127,7 +127,7 @@ module _ (e : ℕ) (rep : Repetition) (w : Bool) (hint : Forest Hint) (n : ℕ) 
           ++ (when (true && not (b || false)) (no.MapChildNotRepeatedGroup e)
           ++ (when (true && not (one_tree cb || two_trees cb)) (no.EntriesChildren e)
           ++ when (true && (two_trees cb && some_root repeated_label cb)) (no.EntryRepeated e))))
-          (cond b (entries_role e (relabel of_label cb)) (broken (no.MapChildNotRepeatedGroup e)))
+          (cond b (entries_role e (relabel of_label cb)) (Err (no.MapChildNotRepeatedGroup e)))
       go false = refl
       go true = entries_first cb
 
@@ -141,7 +141,7 @@ module _ (e : ℕ) (rep : Repetition) (w : Bool) (hint : Forest Hint) (n : ℕ) 
   map_role_first : (below : Forest Read) → Firsts (map_faults e rep below) (map_role e rep (relabel of_label below))
   map_role_first below = go (is_repeated rep)
     where
-      go : (g : Bool) → Firsts (when g (no.MapRepeated e) ++ map_rest below) (cond g (broken (no.MapRepeated e)) (map_child e (relabel of_label below)))
+      go : (g : Bool) → Firsts (when g (no.MapRepeated e) ++ map_rest below) (cond g (Err (no.MapRepeated e)) (map_child e (relabel of_label below)))
       go true = refl
       go false = map_child_first below
 
@@ -160,7 +160,7 @@ module _ (e : ℕ) (rep : Repetition) (w : Bool) (hint : Forest Hint) (n : ℕ) 
       ap (λ (m : ℕ). by_annotation m (group a) rep bs) (sym en)
       ∙ ap (λ (k : Kind). by_annotation x.number k rep bs) (sym ek)
       ∙ ap (λ (r : Repetition). by_annotation x.number x.kind r bs) (sym er) in
-      subst (λ (role : Role). Firsts (rule_faults e (group a) rep below) role) same (by_itself_first a below)
+      subst (λ (role : Result Role Refusal). Firsts (rule_faults e (group a) rep below) role) same (by_itself_first a below)
 
   part_first : (t : Part) (x : Numbered) (a : Option Annotation) (below : Forest Read) → x.number ≡ e → x.repetition ≡ rep → x.kind ≡ group a
       → Firsts (cond (by_itself t) (rule_faults e (group a) rep below) []) (role_of t x (relabel of_label below))
@@ -189,7 +189,7 @@ module _ (typing : Typing) (chosen : ℕ → Bool) where
       go true false = refl
       go false false = refl
   kind_first (group a) x below w n ek er =
-      subst (λ (role : Role). Firsts x.of.number x.of.repetition w x.given.hint n (cond (by_itself x.part) (rule_faults x.of.number (group a) x.of.repetition below) []) role)
+      subst (λ (role : Result Role Refusal). Firsts x.of.number x.of.repetition w x.given.hint n (cond (by_itself x.part) (rule_faults x.of.number (group a) x.of.repetition below) []) role)
       (sym er) (part_first x.of.number x.of.repetition w x.given.hint n x.part x.of a below refl refl ek)
 
   pub element_first : (x : Read) (below : Forest Read) → x.role ≡ role_of x.part x.of (relabel of_label below)

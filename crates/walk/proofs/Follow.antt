@@ -1,5 +1,5 @@
 -- The ways of the rows follow the paths of the schema: one equation between lists, by induction over the schema.
-use Rattle.std.proofs.Common.{◌≡◌, ℕ, suc, Bool, true, false, cond, not, ◌&&◌, List, [], ◌∷◌, ◌++◌, map, ℤ, filter, Option, sym, refl, ap, ◌∙◌, ap₂, append_assoc, append-nil}
+use Rattle.std.proofs.Common.{◌≡◌, ℕ, suc, Bool, true, false, cond, not, ◌&&◌, List, [], ◌∷◌, ◌++◌, map, ℤ, filter, Option, sym, refl, ap, ◌∙◌, ap₂, append_assoc, append-nil, Ok, Err, Result}
 use Rattle.std.proofs.lemmas.List.{map-id}
 use Rattle.std.proofs.lemmas.List.Concat.{flat_map-append}
 use Rattle.std.proofs.lemmas.Bool.{or_parts}
@@ -17,8 +17,9 @@ use Rattle.walk.specs.Shape.{Items, Made, Row, both_sides, element_rows, group_r
 use Rattle.walk.specs.Shape.Items.{of_list}
 use Rattle.walk.specs.Yields.{both_yield, half_by, half_taken, some_yield, yields_by}
 use Rattle.walk.specs.declared.levels.Levels.{Levels}
+use Rattle.schema.specs.declared.refusal.Refusal.{Refusal}
 use Rattle.walk.specs.declared.role.Role.{Role}
-use Rattle.walk.specs.declared.role.Role.TheVariants.{Broken as broken, Entries as entries, Listed as listed, Mapped as mapped, Middle as middle, Own as own}
+use Rattle.walk.specs.declared.role.Role.TheVariants.{Entries as entries, Listed as listed, Mapped as mapped, Middle as middle, Own as own}
 use Rattle.schema.specs.declared.basic.Annotation.{Annotation}
 use Rattle.schema.specs.declared.basic.Repetition.{Repetition}
 use Rattle.schema.specs.declared.basic.Repetition.TheVariants.{Optional as optional, Repeated as repeated, Required as required}
@@ -133,7 +134,7 @@ record Aside : Type 0 where
   pub holder : Holder
   pub given : Given
 
-abbrev made : ℕ → ℕ → Aside → Repetition → Kind → Role → Read
+abbrev made : ℕ → ℕ → Aside → Repetition → Kind → Result Role Refusal → Read
 made n l a r k role =
     record {
       of = record { number = n; leaf_number = l; name = a.name; repetition = r; field_id = a.field_id; kind = k };
@@ -149,7 +150,7 @@ aside x = record { name = x.of.name; field_id = x.of.field_id; part = x.part; ho
 abbrev place : Read → Forest Read → Spot Read
 place x below = record { node = x; below = below }
 
-module _ (n l : ℕ) (a : Aside) (k : Kind) (role : Role) (below : Forest Read) (v : Levels) where
+module _ (n l : ℕ) (a : Aside) (k : Kind) (role : Result Role Refusal) (below : Forest Read) (v : Levels) where
   abbrev here : Repetition → Spot Read
   here r = place (made n l a r k role) below
 
@@ -202,15 +203,15 @@ module _ (chosen : ℕ → Bool) where
     abbrev both : Bool
     both = both_yield chosen p.below
 
-    quiet_group : (role : Role) → half_taken chosen p ≡ half_by role some both → (some ≡ false → kept p.below ≡ [])
+    quiet_group : (role : Result Role Refusal) → half_taken chosen p ≡ half_by role some both → (some ≡ false → kept p.below ≡ [])
         → (n : Option Annotation) → yields_by chosen (group n) role p.node.of.leaf_number some both ≡ false
         → filter (kept_leaf chosen) (map (under p) (ways leaf_spot (spots p.below))) ≡ []
-    quiet_group own e ih n y = kept_under p e (ways leaf_spot (spots p.below)) ∙ ap (map (under p)) (ih y)
-    quiet_group listed e ih n y = kept_under p e (ways leaf_spot (spots p.below)) ∙ ap (map (under p)) (ih y)
-    quiet_group middle e ih n y = kept_under p e (ways leaf_spot (spots p.below)) ∙ ap (map (under p)) (ih y)
-    quiet_group entries e ih n y = kept_under p e (ways leaf_spot (spots p.below)) ∙ ap (map (under p)) (ih y)
-    quiet_group (broken m) e ih n y = kept_under p e (ways leaf_spot (spots p.below)) ∙ ap (map (under p)) (ih y)
-    quiet_group mapped e ih n y = go some both refl refl y
+    quiet_group (Ok own) e ih n y = kept_under p e (ways leaf_spot (spots p.below)) ∙ ap (map (under p)) (ih y)
+    quiet_group (Ok listed) e ih n y = kept_under p e (ways leaf_spot (spots p.below)) ∙ ap (map (under p)) (ih y)
+    quiet_group (Ok middle) e ih n y = kept_under p e (ways leaf_spot (spots p.below)) ∙ ap (map (under p)) (ih y)
+    quiet_group (Ok entries) e ih n y = kept_under p e (ways leaf_spot (spots p.below)) ∙ ap (map (under p)) (ih y)
+    quiet_group (Err m) e ih n y = kept_under p e (ways leaf_spot (spots p.below)) ∙ ap (map (under p)) (ih y)
+    quiet_group (Ok mapped) e ih n y = go some both refl refl y
       where
         go : (b c : Bool) → some ≡ b → both ≡ c → (c && b) ≡ false
             → filter (kept_leaf chosen) (map (under p) (ways leaf_spot (spots p.below))) ≡ []
@@ -240,14 +241,14 @@ module _ (chosen : ℕ → Bool) where
   -- ── The whole ──
 
   module _ (n l : ℕ) (a : Aside) (below : Forest Read) (v : Levels) (p : Bool) where
-    abbrev inner : Role → Repetition → Forest Made
+    abbrev inner : Result Role Refusal → Repetition → Forest Made
     inner role r = shape chosen (raised v r) (passes_null (has_own role) r) below
 
-    abbrev node : Repetition → Kind → Role → Spot Read
+    abbrev node : Repetition → Kind → Result Role Refusal → Spot Read
     node r k role = place (made n l a r k role) below
 
     -- a group that gives rows
-    loud_group : (r : Repetition) (an : Option Annotation) (role : Role) → half_taken chosen (node r (group an) role) ≡ false
+    loud_group : (r : Repetition) (an : Option Annotation) (role : Result Role Refusal) → half_taken chosen (node r (group an) role) ≡ false
         → (p ≡ true → r ≡ repeated)
         → map sum_of (ways made_leaf (inner role r)) ≡ map (fact (raised v r) (passes_null (has_own role) r)) (kept below)
         → map sum_of (ways made_leaf (over (group_rows (node r (group an) role).node (items_of role) (has_own role) r (raised v r) p) (inner role r)))
@@ -260,23 +261,23 @@ module _ (chosen : ℕ → Bool) where
         (step n l a (group an) role below v (items_of role) (has_own role) r p o) (kept below)
         ∙ ap (map (fact v p)) (sym (kept_under (node r (group an) role) h (ways leaf_spot (spots below))))
 
-    follow_node : (r : Repetition) (k : Kind) (role : Role) → (p ≡ true → r ≡ repeated)
+    follow_node : (r : Repetition) (k : Kind) (role : Result Role Refusal) → (p ≡ true → r ≡ repeated)
         → map sum_of (ways made_leaf (inner role r)) ≡ map (fact (raised v r) (passes_null (has_own role) r)) (kept below)
         → map sum_of (ways made_leaf (element_rows chosen k (node r k role).node role r (raised v r) p (both_yield chosen below) (inner role r)))
         ≡ map (fact v p) (filter (kept_leaf chosen) (node_ways k (node r k role)))
     follow_node r (leaf c) role o ih = leaf_step n l a (leaf c) role below v (chosen l) r p o
-    follow_node r (group an) own o ih = loud_group r an own refl o ih
-    follow_node r (group an) listed o ih = loud_group r an listed refl o ih
-    follow_node r (group an) middle o ih = loud_group r an middle refl o ih
-    follow_node r (group an) entries o ih = loud_group r an entries refl o ih
-    follow_node r (group an) (broken m) o ih = loud_group r an (broken m) refl o ih
-    follow_node r (group an) mapped o ih = go (both_yield chosen below) refl
+    follow_node r (group an) (Ok own) o ih = loud_group r an (Ok own) refl o ih
+    follow_node r (group an) (Ok listed) o ih = loud_group r an (Ok listed) refl o ih
+    follow_node r (group an) (Ok middle) o ih = loud_group r an (Ok middle) refl o ih
+    follow_node r (group an) (Ok entries) o ih = loud_group r an (Ok entries) refl o ih
+    follow_node r (group an) (Err m) o ih = loud_group r an (Err m) refl o ih
+    follow_node r (group an) (Ok mapped) o ih = go (both_yield chosen below) refl
       where
         go : (b : Bool) → both_yield chosen below ≡ b
-            → map sum_of (ways made_leaf (over (group_rows (node r (group an) mapped).node of_list false r (raised v r) p) (both_sides mapped b (inner mapped r))))
-            ≡ map (fact v p) (filter (kept_leaf chosen) (node_ways (group an) (node r (group an) mapped)))
-        go true e = loud_group r an mapped (ap (λ (b : Bool). not b && some_yield chosen below) e) o ih
-        go false e = sym (ap (map (fact v p)) (quiet_group (node r (group an) mapped) mapped refl (quiet below) an (ap (λ (b : Bool). b && some_yield chosen below) e)))
+            → map sum_of (ways made_leaf (over (group_rows (node r (group an) (Ok mapped)).node of_list false r (raised v r) p) (both_sides (Ok mapped) b (inner (Ok mapped) r))))
+            ≡ map (fact v p) (filter (kept_leaf chosen) (node_ways (group an) (node r (group an) (Ok mapped))))
+        go true e = loud_group r an (Ok mapped) (ap (λ (b : Bool). not b && some_yield chosen below) e) o ih
+        go false e = sym (ap (map (fact v p)) (quiet_group (node r (group an) (Ok mapped)) (Ok mapped) refl (quiet below) an (ap (λ (b : Bool). b && some_yield chosen below) e)))
 
   pub follow : (f : Forest Read) (v : Levels) (p : Bool) → Owing p f → map sum_of (ways made_leaf (shape chosen v p f)) ≡ map (fact v p) (kept f)
   unfolding shape

@@ -1,5 +1,5 @@
 -- Hints reach elements and fields are told as the laws say.
-use Rattle.std.proofs.Common.{◌≡◌, ℕ, zero, suc, Bool, true, false, not, ◌&&◌, [], Some, None, sym, refl, ap, ◌∙◌, subst, ap₂, Option}
+use Rattle.std.proofs.Common.{◌≡◌, ℕ, zero, suc, Bool, true, false, not, ◌&&◌, [], Some, None, sym, refl, ap, ◌∙◌, subst, ap₂, Option, Result}
 use Rattle.walk.proofs.Lists.{all_append}
 use Rattle.std.proofs.lemmas.Bool.{true≢false}
 use Rattle.std.proofs.lemmas.Option.{none-some}
@@ -17,6 +17,7 @@ use Rattle.walk.specs.Reading.Part.{as_element, as_entries, as_field, as_key, as
 use Rattle.walk.specs.Refusing.{by_itself}
 use Rattle.walk.specs.Shape.{Row}
 use Rattle.walk.specs.Walk.{inner_metadata, metadata_of}
+use Rattle.schema.specs.declared.refusal.Refusal.{Refusal}
 use Rattle.walk.specs.declared.role.Role.{Role}
 use Rattle.tree.specs.Forest.{Forest, alone, listing}
 use Rattle.tree.specs.Forest.Forest.{bare, plant}
@@ -112,7 +113,7 @@ held_field g f null = record { name = g.name; nullable = not g.key && null; meta
 -- ── One element ──
 
 module _ (n : Bool) (u h : Forest Hint) (t : Part) (g : Holder) (x : Numbered) (below : Forest Numbered) where
-  abbrev its_role : Role
+  abbrev its_role : Result Role Refusal
   its_role = role_of t x below
 
   abbrev its_holder : Holder
@@ -141,19 +142,19 @@ module _ (n : Bool) (u h : Forest Hint) (t : Part) (g : Holder) (x : Numbered) (
       record {
         fields = λ e k y c.
             let r = child_told k y c in
-            (r.hint ∙ ap (λ (z : Role). nth_hint k (hands_on z (wrapped t x.repetition) (sole h))) e, r.named ∙ ap compares_names e);
+            (r.hint ∙ ap (λ (z : Result Role Refusal). nth_hint k (hands_on z (wrapped t x.repetition) (sole h))) e, r.named ∙ ap compares_names e);
         list_child = λ e y c.
             let r = child_told 0 y c in
-            (r.hint ∙ ap (λ (z : Role). nth_hint 0 (hands_on z (wrapped t x.repetition) (sole h))) e ∙ sole_sole (inside (sole h)), r.named ∙ ap compares_names e);
+            (r.hint ∙ ap (λ (z : Result Role Refusal). nth_hint 0 (hands_on z (wrapped t x.repetition) (sole h))) e ∙ sole_sole (inside (sole h)), r.named ∙ ap compares_names e);
         element = λ e y c.
             let r = child_told 0 y c in
-            (r.hint ∙ ap (λ (z : Role). nth_hint 0 (hands_on z (wrapped t x.repetition) (sole h))) e ∙ sole_sole h, r.named ∙ ap compares_names e);
+            (r.hint ∙ ap (λ (z : Result Role Refusal). nth_hint 0 (hands_on z (wrapped t x.repetition) (sole h))) e ∙ sole_sole h, r.named ∙ ap compares_names e);
         map_entries = λ e y c.
             let r = child_told 0 y c in
-            (r.hint ∙ ap (λ (z : Role). nth_hint 0 (hands_on z (wrapped t x.repetition) (sole h))) e ∙ sole_sole (inside (sole h)), r.named ∙ ap compares_names e);
+            (r.hint ∙ ap (λ (z : Result Role Refusal). nth_hint 0 (hands_on z (wrapped t x.repetition) (sole h))) e ∙ sole_sole (inside (sole h)), r.named ∙ ap compares_names e);
         key_and_value = λ e k y c.
             let r = child_told k y c in
-            (r.hint ∙ ap (λ (z : Role). nth_hint k (hands_on z (wrapped t x.repetition) (sole h))) e, r.named ∙ ap compares_names e);
+            (r.hint ∙ ap (λ (z : Result Role Refusal). nth_hint k (hands_on z (wrapped t x.repetition) (sole h))) e, r.named ∙ ap compares_names e);
       }
 
   -- the field of a child, by its part
@@ -184,7 +185,7 @@ fields_at n u h t g x below typing =
       key = λ k y c e row. part_field n u h t g x below as_key k y c e row.nullable;
       sides = λ e k y c.
           let r = child_told n u h t g x below k y c in
-          ap is_key r.part ∙ ap (λ (z : Role). is_key (part_after k (child_part z x.name below))) e ∙ key_first k;
+          ap is_key r.part ∙ ap (λ (z : Result Role Refusal). is_key (part_after k (child_part z x.name below))) e ∙ key_first k;
       group = λ k y c e not_root row. of_part t k y c e not_root row;
       inside_list = λ k y c e row. ap (λ (z : Option Metadata). record { name = y.of.name; nullable = false; metadata = z }) (inner_own y.part y.given.hint e);
       itself = λ k y c e row. ap (λ (z : Option Metadata). record { name = y.of.name; nullable = false; metadata = z }) (inner_group y.part y.given.hint e);

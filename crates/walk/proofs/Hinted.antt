@@ -1,5 +1,5 @@
 -- Hints change no row, Arrow types and metadata aside.
-use Rattle.std.proofs.Common.{◌≡◌, ℕ, Bool, true, false, cond, ◌&&◌, ◌||◌, List, [], ◌∷◌, map, Ok, sym, refl, ap, ◌∙◌, subst, ap₂}
+use Rattle.std.proofs.Common.{◌≡◌, ℕ, Bool, true, false, cond, ◌&&◌, ◌||◌, List, [], ◌∷◌, map, Ok, sym, refl, ap, ◌∙◌, subst, ap₂, Err, Result}
 use Rattle.schema.specs.Words.{Spelled}
 use Rattle.walk.specs.Faults.{Typing}
 use Rattle.walk.proofs.Lists.{count_relabel, listing_relabel}
@@ -15,7 +15,7 @@ use Rattle.walk.specs.Walk.{Full, all_refusals, full_of, full_rows, handed, unle
 use Rattle.walk.specs.Yields.{both_yield, every_yield, some_yield, yields_by}
 use Rattle.walk.specs.declared.levels.Levels.{Levels}
 use Rattle.walk.specs.declared.role.Role.{Role}
-use Rattle.walk.specs.declared.role.Role.TheVariants.{Broken as broken, Entries as entries, Listed as listed, Mapped as mapped, Middle as middle, Own as own}
+use Rattle.walk.specs.declared.role.Role.TheVariants.{Entries as entries, Listed as listed, Mapped as mapped, Middle as middle, Own as own}
 use Rattle.schema.specs.declared.basic.Repetition.{Repetition}
 use Rattle.schema.specs.declared.basic.Repetition.TheVariants.{Optional as optional, Repeated as repeated, Required as required}
 use Rattle.schema.specs.declared.element.Kind.{Kind}
@@ -91,20 +91,20 @@ module _ (chosen : ℕ → Bool) where
     leaf_same true r = refl
     leaf_same false r = refl
 
-    sides_same : (role : Role) (a b : Bool) (f g : Forest Made) → a ≡ b → relabel shaped_of f ≡ relabel shaped_of g
+    sides_same : (role : Result Role Refusal) (a b : Bool) (f g : Forest Made) → a ≡ b → relabel shaped_of f ≡ relabel shaped_of g
         → relabel shaped_of (both_sides role a f) ≡ relabel shaped_of (both_sides role b g)
-    sides_same own a b f g e k = k
-    sides_same listed a b f g e k = k
-    sides_same middle a b f g e k = k
-    sides_same entries a b f g e k = k
-    sides_same (broken m) a b f g e k = k
-    sides_same mapped a b f g e k = ap (λ (c : Bool). relabel shaped_of (cond c f bare)) e ∙ go b
+    sides_same (Ok own) a b f g e k = k
+    sides_same (Ok listed) a b f g e k = k
+    sides_same (Ok middle) a b f g e k = k
+    sides_same (Ok entries) a b f g e k = k
+    sides_same (Err m) a b f g e k = k
+    sides_same (Ok mapped) a b f g e k = ap (λ (c : Bool). relabel shaped_of (cond c f bare)) e ∙ go b
       where
         go : (c : Bool) → relabel shaped_of (cond c f bare) ≡ relabel shaped_of (cond c g bare)
         go true = k
         go false = refl
 
-    element_same : (k : Kind) (role : Role) (r : Repetition) (p a b : Bool) (f g : Forest Made) → a ≡ b → relabel shaped_of f ≡ relabel shaped_of g
+    element_same : (k : Kind) (role : Result Role Refusal) (r : Repetition) (p a b : Bool) (f g : Forest Made) → a ≡ b → relabel shaped_of f ≡ relabel shaped_of g
         → relabel shaped_of (element_rows chosen k (with_hint x n u h) role r v p a f) ≡ relabel shaped_of (element_rows chosen k x role r v p b g)
     element_same (leaf l) role r p a b f g e k =
         let c = chosen x.of.leaf_number in

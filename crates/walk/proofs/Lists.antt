@@ -1,5 +1,6 @@
 -- Lists and forests, whatever they hold.
-use Rattle.std.proofs.Common.{◌≡◌, ℕ, suc, max, ◌+◌, Bool, true, false, cond, List, [], ◌∷◌, ◌++◌, map, length, filter, sym, refl, ap, ◌∙◌, ap₂, append_assoc, length-append}
+use Rattle.schema.specs.declared.refusal.Refusal.{Refusal}
+use Rattle.std.proofs.Common.{Ok, Err, Result, ◌≡◌, ℕ, suc, max, ◌+◌, Bool, true, false, cond, List, [], ◌∷◌, ◌++◌, map, length, filter, sym, refl, ap, ◌∙◌, ap₂, append_assoc, length-append}
 use Rattle.std.proofs.lemmas.List.Elements.{filter-append}
 use Rattle.std.specs.List.{AllByRecursion}
 use mathlib.Core.List.{map-append}
@@ -7,7 +8,7 @@ use lib.ListN.{length-map}
 use Rattle.walk.specs.Forests.{Spot, Way, beside, height, relabel, spots, straight, under, ways}
 use Rattle.walk.specs.Shape.{both_sides}
 use Rattle.walk.specs.declared.role.Role.{Role}
-use Rattle.walk.specs.declared.role.Role.TheVariants.{Broken as broken, Entries as entries, Listed as listed, Mapped as mapped, Middle as middle, Own as own}
+use Rattle.walk.specs.declared.role.Role.TheVariants.{Entries as entries, Listed as listed, Mapped as mapped, Middle as middle, Own as own}
 use Rattle.walk.specs.Laws.{Paired}
 use Rattle.tree.specs.Forest.{Forest, count, listing}
 use Rattle.tree.specs.Forest.Forest.{bare, plant}
@@ -109,11 +110,11 @@ module _ {A : Type 0} (is : A → Bool) where
 -- ── A map's two sides ──
 
 -- what holds of rows and of no rows holds of them also where a map leaves them out
-pub sides_either : {A : Type 0} (P : Forest A → Type 0) (role : Role) (both : Bool) (f : Forest A) → P f → P bare → P (both_sides role both f)
-sides_either P own both f p q = p
-sides_either P listed both f p q = p
-sides_either P middle both f p q = p
-sides_either P entries both f p q = p
-sides_either P (broken n) both f p q = p
-sides_either P mapped true f p q = p
-sides_either P mapped false f p q = q
+pub sides_either : {A : Type 0} (P : Forest A → Type 0) (role : Result Role Refusal) (both : Bool) (f : Forest A) → P f → P bare → P (both_sides role both f)
+sides_either P (Ok own) both f p q = p
+sides_either P (Ok listed) both f p q = p
+sides_either P (Ok middle) both f p q = p
+sides_either P (Ok entries) both f p q = p
+sides_either P (Err n) both f p q = p
+sides_either P (Ok mapped) true f p q = p
+sides_either P (Ok mapped) false f p q = q

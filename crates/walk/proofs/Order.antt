@@ -1,5 +1,5 @@
 -- No row's repetition level is above its definition level; and the elements that are read are the schema's.
-use Rattle.std.proofs.Common.{◌≡◌, ℕ, suc, ◌+◌, ◌*◌, ◌≤◌, Bool, true, false, List, [], ◌∷◌, length, None, ap, arith, length-append}
+use Rattle.std.proofs.Common.{◌≡◌, ℕ, suc, ◌+◌, ◌*◌, ◌≤◌, Bool, true, false, List, [], ◌∷◌, length, None, ap, arith, length-append, Ok, Err, Result}
 use Rattle.std.specs.List.{AllByRecursion}
 use Rattle.walk.proofs.Lists.{all_append, all_back, all_front, count_plant, sides_either}
 use Rattle.walk.proofs.Numbers.{count_numbered, count_reading, height_numbered, height_reading}
@@ -13,6 +13,7 @@ use Rattle.walk.specs.Shape.{Items, Made, base, both_sides, element_rows, group_
 use Rattle.walk.specs.Shape.Items.{of_list}
 use Rattle.walk.specs.Yields.{both_yield}
 use Rattle.walk.specs.declared.levels.Levels.{Levels}
+use Rattle.schema.specs.declared.refusal.Refusal.{Refusal}
 use Rattle.walk.specs.declared.role.Role.{Role}
 use Rattle.schema.specs.Words.{Spelled}
 use Rattle.schema.specs.declared.basic.Repetition.{Repetition}
@@ -60,7 +61,7 @@ module _ (most : ℕ) where
   each_leaf false x r v h = tt
 
   module _ (chosen : ℕ → Bool) where
-    each_element : (k : Kind) (x : Read) (role : Role) (r : Repetition) (v : Levels) (p both : Bool) (inner : Forest Made)
+    each_element : (k : Kind) (x : Read) (role : Result Role Refusal) (r : Repetition) (v : Levels) (p both : Bool) (inner : Forest Made)
         → In v → AllLow inner → AllLow (element_rows chosen k x role r v p both inner)
     each_element (leaf c) x role r v p both inner h a =
         each_over (wrap x of_list r v p) (leaf_part (chosen x.of.leaf_number) x r v) (each_wrap x of_list r v p h) (each_leaf (chosen x.of.leaf_number) x r v h)
@@ -132,7 +133,7 @@ few_leaf true x r v = omega arith
 few_leaf false x r v = omega arith
 
 module _ (chosen : ℕ → Bool) where
-  few_element : (k : Kind) (x : Read) (role : Role) (r : Repetition) (v : Levels) (p both : Bool) (inner : Forest Made)
+  few_element : (k : Kind) (x : Read) (role : Result Role Refusal) (r : Repetition) (v : Levels) (p both : Bool) (inner : Forest Made)
       → count (element_rows chosen k x role r v p both inner) ≤ 2 + count inner
   few_element (leaf c) x role r v p both inner =
       omega (arith, count_over (wrap x of_list r v p) (leaf_part (chosen x.of.leaf_number) x r v), few_wrap x of_list r v p, few_leaf (chosen x.of.leaf_number) x r v)

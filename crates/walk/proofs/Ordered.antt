@@ -1,5 +1,5 @@
 -- The walking order is the order of the table, and the faults of one element come by rank.
-use Rattle.std.proofs.Common.{◌≡◌, ℕ, ◌+◌, ◌≤◌, Bool, true, false, cond, not, ◌&&◌, ◌||◌, List, [], ◌∷◌, ◌++◌, map, Some, sym, refl, ap, ◌∙◌, subst, ap₂, arith, length-append, None}
+use Rattle.std.proofs.Common.{◌≡◌, ℕ, ◌+◌, ◌≤◌, Bool, true, false, cond, not, ◌&&◌, ◌||◌, List, [], ◌∷◌, ◌++◌, map, Some, sym, refl, ap, ◌∙◌, subst, ap₂, arith, length-append, None, Ok, Err, Result}
 use Rattle.walk.proofs.Lists.{all_append}
 use mathlib.Core.List.{map-append}
 use Rattle.std.specs.List.{range_with_len, AllByRecursion}
@@ -14,7 +14,7 @@ use Rattle.walk.specs.Reading.{Holder, Part, Read, child_part, held_by, next_par
 use Rattle.walk.specs.Reading.Part.{as_root}
 use Rattle.walk.specs.Refusing.{below_groups, by_itself, faults_at, group_faults, hint_faults, map_faults, miscounted, misnamed, no_such, not_over_two, rank, repeated_group, repeated_label, rule_faults, untyped, walked, when}
 use Rattle.walk.specs.declared.role.Role.{Role}
-use Rattle.walk.specs.declared.role.Role.TheVariants.{Broken as broken, Entries as entries, Listed as listed, Mapped as mapped, Middle as middle, Own as own}
+use Rattle.walk.specs.declared.role.Role.TheVariants.{Entries as entries, Listed as listed, Mapped as mapped, Middle as middle, Own as own}
 use Rattle.schema.specs.Refusals.{element_of}
 use Rattle.schema.specs.Words.{Spelled}
 use Rattle.schema.specs.declared.basic.Repetition.{Repetition}
@@ -125,18 +125,18 @@ itself_fine : (e : ℕ) (b : Bool) (rs : List Refusal) → Fine e 0 17 rs → Fi
 itself_fine e true rs p = p
 itself_fine e false rs p = none e 0 17 (omega arith)
 
-group_fine : (e : ℕ) (role : Role) (w : Bool) (hint : Forest Hint) (n : ℕ) → Fine e 17 22 (group_faults e role w hint n)
-group_fine e own w hint n =
+group_fine : (e : ℕ) (role : Result Role Refusal) (w : Bool) (hint : Forest Hint) (n : ℕ) → Fine e 17 22 (group_faults e role w hint n)
+group_fine e (Ok own) w hint n =
     both (one e 17 18 (w && no_such plain_list hint) (no.HintKind e) refl (omega arith) (omega arith))
     (both (one e 18 18 (no_such any_struct (unwrap w hint)) (no.HintKind e) refl (omega arith) (omega arith))
     (one e 18 22 (miscounted n (unwrap w hint)) (no.HintFieldCount e) refl (omega arith) (omega arith)))
-group_fine e listed w hint n = one e 17 22 (no_such any_list hint) (no.HintKind e) refl (omega arith) (omega arith)
-group_fine e middle w hint n = none e 17 22 (omega arith)
-group_fine e mapped w hint n =
+group_fine e (Ok listed) w hint n = one e 17 22 (no_such any_list hint) (no.HintKind e) refl (omega arith) (omega arith)
+group_fine e (Ok middle) w hint n = none e 17 22 (omega arith)
+group_fine e (Ok mapped) w hint n =
     both (one e 17 18 (no_such any_map hint) (no.HintKind e) refl (omega arith) (omega arith))
     (one e 18 22 (not_over_two hint) (no.HintMap e) refl (omega arith) (omega arith))
-group_fine e entries w hint n = none e 17 22 (omega arith)
-group_fine e (broken r) w hint n = none e 17 22 (omega arith)
+group_fine e (Ok entries) w hint n = none e 17 22 (omega arith)
+group_fine e (Err r) w hint n = none e 17 22 (omega arith)
 
 module _ (typing : Typing) (chosen : ℕ → Bool) where
   hints_fine : (k : Kind) (x : Read) (w : Bool) (n : ℕ) → Fine x.of.number 17 22 (hint_faults typing chosen k x w n)

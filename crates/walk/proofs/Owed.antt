@@ -1,12 +1,13 @@
 -- In a schema that is read, what an optional LIST or MAP group passes-null falls to a repeated child.
-use Rattle.std.proofs.Common.{◌≡◌, ℕ, Bool, true, false, cond, not, ◌&&◌, ◌||◌, List, sym, refl, ap, ◌∙◌, subst, Some, None}
+use Rattle.std.proofs.Common.{◌≡◌, ℕ, Bool, true, false, cond, not, ◌&&◌, ◌||◌, List, sym, refl, ap, ◌∙◌, subst, Some, None, Ok, Err, Result}
 use Rattle.walk.proofs.Follow.{Owing}
 use Rattle.walk.specs.Labels.{Numbered, is_leaf, is_optional, is_repeated, repeated_element}
 use Rattle.walk.specs.Reading.{Holder, Part, by_annotation, child_part, entries_role, first_is_element, held_by, list_child, list_role, map_child, map_role, next_part, reading, role_of}
 use Rattle.walk.specs.Reading.Part.{as_element, as_entries, as_field, as_key, as_middle, as_root}
 use Rattle.walk.specs.Shape.{has_own, passes_null}
+use Rattle.schema.specs.declared.refusal.Refusal.{Refusal}
 use Rattle.walk.specs.declared.role.Role.{Role}
-use Rattle.walk.specs.declared.role.Role.TheVariants.{Broken as broken, Entries as entries, Listed as listed, Mapped as mapped, Middle as middle, Own as own}
+use Rattle.walk.specs.declared.role.Role.TheVariants.{Entries as entries, Listed as listed, Mapped as mapped, Middle as middle, Own as own}
 use Rattle.schema.specs.declared.basic.Repetition.{Repetition}
 use Rattle.schema.specs.declared.basic.Repetition.TheVariants.{Optional as optional, Repeated as repeated, Required as required}
 use Rattle.schema.specs.declared.element.Kind.{Kind}
@@ -38,20 +39,20 @@ is_rep optional e = cc
 is_rep repeated e = refl
 
 -- what a role wants of the element and of what is below it
-abbrev Wants : Repetition → Forest Numbered → Role → Type 0
-Wants r below own = Unit {0}
-Wants r below listed = Roots true below
-Wants r below middle = r ≡ repeated
-Wants r below mapped = Roots true below
-Wants r below entries = r ≡ repeated
-Wants r below (broken n) = Unit {0}
+abbrev Wants : Repetition → Forest Numbered → Result Role Refusal → Type 0
+Wants r below (Ok own) = Unit {0}
+Wants r below (Ok listed) = Roots true below
+Wants r below (Ok middle) = r ≡ repeated
+Wants r below (Ok mapped) = Roots true below
+Wants r below (Ok entries) = r ≡ repeated
+Wants r below (Err n) = Unit {0}
 
 entries_wants : (n : ℕ) (r : Repetition) (below : Forest Numbered) → Roots true below → (f : Forest Numbered) → Wants r below (entries_role n f)
 entries_wants n r below h bare = tt
 entries_wants n r below h (plant k kb bare) = h
 entries_wants n r below h (plant k kb (plant v vb bare)) = go (repeated_element k || repeated_element v)
   where
-    go : (b : Bool) → Wants r below (cond b (broken (no.EntryRepeated n)) mapped)
+    go : (b : Bool) → Wants r below (cond b (Err (no.EntryRepeated n)) (Ok mapped))
     go true = tt
     go false = h
 entries_wants n r below h (plant k kb (plant v vb (plant w wb after))) = tt
@@ -74,7 +75,7 @@ map_child_wants n r bare = tt
 map_child_wants n r (plant c cb (plant d db after)) = tt
 map_child_wants n r (plant c cb bare) = go (repeated_element c) (not (is_leaf c.kind)) refl
   where
-    go : (b g : Bool) → repeated_element c ≡ b → Wants r (plant c cb bare) (cond (b && g) (entries_role n cb) (broken (no.MapChildNotRepeatedGroup n)))
+    go : (b g : Bool) → repeated_element c ≡ b → Wants r (plant c cb bare) (cond (b && g) (entries_role n cb) (Err (no.MapChildNotRepeatedGroup n)))
     go false g e = tt
     go true false e = tt
     go true true e = entries_wants n r (plant c cb bare) (one_root c cb e) cb
@@ -82,7 +83,7 @@ map_child_wants n r (plant c cb bare) = go (repeated_element c) (not (is_leaf c.
 map_wants : (n : ℕ) (r : Repetition) (below : Forest Numbered) → Wants r below (map_role n r below)
 map_wants n r below = go (is_repeated r)
   where
-    go : (b : Bool) → Wants r below (cond b (broken (no.MapRepeated n)) (map_child n below))
+    go : (b : Bool) → Wants r below (cond b (Err (no.MapRepeated n)) (map_child n below))
     go true = tt
     go false = map_child_wants n r below
 
@@ -105,22 +106,22 @@ group_either : (b : Bool) → from_group (cond b as_element as_middle) ≡ true
 group_either true = refl
 group_either false = refl
 
-Fine : Repetition → List ℕ → Forest Numbered → Role → Type 0
+Fine : Repetition → List ℕ → Forest Numbered → Result Role Refusal → Type 0
 Fine r name below role =
     (passes_null (has_own role) r ≡ true → from_group (child_part role name below) ≡ true) × Roots (from_group (child_part role name below)) below
 
 repeated_owes : (r : Repetition) → r ≡ repeated → is_optional r ≡ true → false ≡ true
 repeated_owes r e h = ap is_optional (sym e) ∙ h
 
-fine : (r : Repetition) (name : List ℕ) (below : Forest Numbered) (role : Role) → Wants r below role → Fine r name below role
+fine : (r : Repetition) (name : List ℕ) (below : Forest Numbered) (role : Result Role Refusal) → Wants r below role → Fine r name below role
 unfolding Fine
-fine r name below own w = ((λ e. cc), roots_free below)
-fine r name below listed w =
+fine r name below (Ok own) w = ((λ e. cc), roots_free below)
+fine r name below (Ok listed) w =
     (λ _. group_either (first_is_element name below), subst (λ (b : Bool). Roots b below) (sym (group_either (first_is_element name below))) w)
-fine r name below middle w = (λ e. repeated_owes r w e, roots_free below)
-fine r name below mapped w = (λ _. refl, w)
-fine r name below entries w = (λ e. repeated_owes r w e, roots_free below)
-fine r name below (broken n) w = ((λ e. cc), roots_free below)
+fine r name below (Ok middle) w = (λ e. repeated_owes r w e, roots_free below)
+fine r name below (Ok mapped) w = (λ _. refl, w)
+fine r name below (Ok entries) w = (λ e. repeated_owes r w e, roots_free below)
+fine r name below (Err n) w = ((λ e. cc), roots_free below)
 
 next_same : (t : Part) → from_group (next_part t) ≡ from_group t
 next_same as_root = refl

@@ -1,5 +1,5 @@
 -- The reading of lists and maps agrees with the published rules.
-use Rattle.std.proofs.Common.{◌≡◌, ℕ, Bool, true, false, cond, not, ◌&&◌, ◌||◌, ◌⊎◌, List, ◌++◌, map, Some, None, codes, Decides, Option, refl, ap, ◌∙◌, ap₂, inl, inr}
+use Rattle.std.proofs.Common.{◌≡◌, ℕ, Bool, true, false, cond, not, ◌&&◌, ◌||◌, ◌⊎◌, List, ◌++◌, map, Some, None, codes, Decides, Option, refl, ap, ◌∙◌, ap₂, inl, inr, Ok, Err, Result}
 use Rattle.std.proofs.lemmas.Bool.{false_from_ne_true, false≢true, or_right}
 use Rattle.std.specs.Str.{bytes_eq}
 use Rattle.std.proofs.lemmas.Slice.Eq.{bytes_eq-Decides}
@@ -12,8 +12,9 @@ use Rattle.walk.specs.Published.KeyValue.{key_and_value}
 use Rattle.walk.specs.Reading.{Holder, Part, Read, by_annotation, child_part, entries_role, held_by, is_element, list_child, map_child, map_role, names_element, nobody, reading, role_of}
 use Rattle.walk.specs.Reading.Part.{as_element, as_field, as_middle}
 use Rattle.walk.specs.Shape.{has_own, passes_null}
+use Rattle.schema.specs.declared.refusal.Refusal.{Refusal}
 use Rattle.walk.specs.declared.role.Role.{Role}
-use Rattle.walk.specs.declared.role.Role.TheVariants.{Broken as broken, Listed as listed, Mapped as mapped}
+use Rattle.walk.specs.declared.role.Role.TheVariants.{Listed as listed, Mapped as mapped}
 use Rattle.schema.specs.declared.basic.Repetition.{Repetition}
 use Rattle.schema.specs.declared.basic.Repetition.TheVariants.{Optional as optional, Repeated as repeated, Required as required}
 use Rattle.schema.specs.declared.element.Kind.{Kind}
@@ -67,7 +68,7 @@ first_same t h (plant x below after) = refl
 
 module _ (g c : Numbered) (cb : Forest Numbered) (kind : g.kind ≡ group (Some a.List)) (single : g.repetition ≡ repeated → ⊥)
     (again : c.repetition ≡ repeated) (bare_c : Unannotated c.kind) where
-  list_read : role_of as_field g (plant c cb bare) ≡ listed
+  list_read : role_of as_field g (plant c cb bare) ≡ Ok listed
   list_read =
       ap (λ (k : Kind). by_annotation g.number k g.repetition (plant c cb bare)) kind
       ∙ ap₂ (λ (p q : Bool). list_child g.number p q) (ap is_repeated again) (not_repeated g.repetition single)
@@ -81,7 +82,7 @@ module _ (g c : Numbered) (cb : Forest Numbered) (kind : g.kind ≡ group (Some 
       let role = role_of as_field g (plant c cb bare) in
       let part : Part = child_part role g.name (plant c cb bare) in
       let is : part ≡ cond b as_element as_middle =
-      ap (λ (r : Role). child_part r g.name (plant c cb bare)) list_read ∙ ap (λ (z : Bool). cond z as_element as_middle) e in
+      ap (λ (r : Result Role Refusal). child_part r g.name (plant c cb bare)) list_read ∙ ap (λ (z : Bool). cond z as_element as_middle) e in
       let hold = held_by as_field nobody g in
       ap (λ (o : Option Numbered). element_by part c o) (first_same (child_part (role_of part c cb) c.name cb) (held_by part hold c) cb)
       ∙ ap (λ (p : Part). element_by p c (first_root cb)) is
@@ -112,7 +113,7 @@ lists_as_published g c cb kind single again bare_c =
     record {
       role = list_read g c cb kind single again bare_c;
       element = element_agrees g c cb kind single again bare_c;
-      nullable = ap (λ (r : Role). passes_null (has_own r) g.repetition) (list_read g c cb kind single again bare_c);
+      nullable = ap (λ (r : Result Role Refusal). passes_null (has_own r) g.repetition) (list_read g c cb kind single again bare_c);
     }
 
 -- ── The published rules say something ──
@@ -169,14 +170,14 @@ module _ (g e k v : Numbered) (kb vb : Forest Numbered) (kind : MapAnnotated g.k
   abbrev pair : Forest Numbered
   pair = plant k kb (plant v vb bare)
 
-  mapped_read : role_of as_field g (plant e pair bare) ≡ mapped
+  mapped_read : role_of as_field g (plant e pair bare) ≡ Ok mapped
   mapped_read =
       map_read g.number g.kind g.repetition (plant e pair bare) kind
-      ∙ ap (λ (b : Bool). cond b (broken (no.MapRepeated g.number)) (map_child g.number (plant e pair bare))) (not_repeated g.repetition single)
-      ∙ ap₂ (λ (b d : Bool). cond (b && not d) (entries_role g.number pair) (broken (no.MapChildNotRepeatedGroup g.number))) (ap is_repeated again) l
-      ∙ ap₂ (λ (b d : Bool). cond (b || d) (broken (no.EntryRepeated g.number)) mapped) (ap is_repeated key) (not_repeated v.repetition value)
+      ∙ ap (λ (b : Bool). cond b (Err (no.MapRepeated g.number)) (map_child g.number (plant e pair bare))) (not_repeated g.repetition single)
+      ∙ ap₂ (λ (b d : Bool). cond (b && not d) (entries_role g.number pair) (Err (no.MapChildNotRepeatedGroup g.number))) (ap is_repeated again) l
+      ∙ ap₂ (λ (b d : Bool). cond (b || d) (Err (no.EntryRepeated g.number)) (Ok mapped)) (ap is_repeated key) (not_repeated v.repetition value)
 
-  abbrev below_entries : Role → Forest Read
+  abbrev below_entries : Result Role Refusal → Forest Read
   below_entries r =
       let part = child_part r g.name (plant e pair bare) in
       reading (child_part (role_of part e pair) e.name pair) (held_by part (held_by as_field nobody g) e) pair
@@ -186,9 +187,9 @@ module _ (g e k v : Numbered) (kb vb : Forest Numbered) (kind : MapAnnotated g.k
   map_agrees =
       record {
         role = mapped_read;
-        parts = ap (λ (r : Role). map (λ (y : Read). y.part) (roots (below_entries r))) mapped_read;
-        key_value = ap (λ (r : Role). map (λ (y : Read). y.of) (roots (below_entries r))) mapped_read;
-        nullable = ap (λ (r : Role). passes_null (has_own r) g.repetition) mapped_read;
+        parts = ap (λ (r : Result Role Refusal). map (λ (y : Read). y.part) (roots (below_entries r))) mapped_read;
+        key_value = ap (λ (r : Result Role Refusal). map (λ (y : Read). y.of) (roots (below_entries r))) mapped_read;
+        nullable = ap (λ (r : Result Role Refusal). passes_null (has_own r) g.repetition) mapped_read;
       }
 
 pub maps_as_published : MapsAsPublished

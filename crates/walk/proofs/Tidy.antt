@@ -1,5 +1,5 @@
 -- No rows lie below a leaf row; so the leaf rows of the flat result are the ends of the ways.
-use Rattle.std.proofs.Common.{◌≡◌, ℕ, Bool, true, false, ◌&&◌, ◌||◌, List, [], ◌∷◌, sym, refl, ap, ◌∙◌, subst, ap₂, append-nil}
+use Rattle.std.proofs.Common.{◌≡◌, ℕ, Bool, true, false, ◌&&◌, ◌||◌, List, [], ◌∷◌, sym, refl, ap, ◌∙◌, subst, ap₂, append-nil, Ok, Err, Result}
 use Rattle.std.proofs.lemmas.Bool.{false≢true}
 use Rattle.walk.proofs.Follow.{Groups, groups_of, made_leaf}
 use Rattle.walk.proofs.Lists.{Ends, sides_either}
@@ -10,8 +10,9 @@ use Rattle.walk.specs.Shape.{Items, Made, base, both_sides, element_rows, group_
 use Rattle.walk.specs.Shape.Items.{of_list}
 use Rattle.walk.specs.Yields.{both_yield, some_yield, yields_by}
 use Rattle.walk.specs.declared.levels.Levels.{Levels}
+use Rattle.schema.specs.declared.refusal.Refusal.{Refusal}
 use Rattle.walk.specs.declared.role.Role.{Role}
-use Rattle.walk.specs.declared.role.Role.TheVariants.{Broken as broken, Entries as entries, Listed as listed, Mapped as mapped, Middle as middle, Own as own}
+use Rattle.walk.specs.declared.role.Role.TheVariants.{Entries as entries, Listed as listed, Mapped as mapped, Middle as middle, Own as own}
 use Rattle.schema.specs.Words.{Spelled}
 use Rattle.schema.specs.declared.basic.Repetition.{Repetition}
 use Rattle.schema.specs.declared.element.Kind.{Kind}
@@ -34,23 +35,23 @@ planted_leaf : (c : Bool) (x : Read) (r : Repetition) (v : Levels) → planted (
 planted_leaf true x r v = refl
 planted_leaf false x r v = refl
 
-planted_both : (b : Bool) (f : Forest Made) → planted (both_sides mapped b f) ≡ (b && planted f)
+planted_both : (b : Bool) (f : Forest Made) → planted (both_sides (Ok mapped) b f) ≡ (b && planted f)
 planted_both true f = refl
 planted_both false f = refl
 
 module _ (chosen : ℕ → Bool) where
-  planted_element : (k : Kind) (x : Read) (role : Role) (r : Repetition) (v : Levels) (p both some : Bool) (inner : Forest Made)
+  planted_element : (k : Kind) (x : Read) (role : Result Role Refusal) (r : Repetition) (v : Levels) (p both some : Bool) (inner : Forest Made)
       → planted inner ≡ some
       → planted (element_rows chosen k x role r v p both inner) ≡ yields_by chosen k role x.of.leaf_number some both
   planted_element (leaf c) x role r v p both some inner e =
       planted_over (wrap x of_list r v p) (leaf_part (chosen x.of.leaf_number) x r v) ∙ planted_leaf (chosen x.of.leaf_number) x r v
-  planted_element (group n) x own r v p both some inner e = planted_over (group_rows x of_list true r v p) inner ∙ e
-  planted_element (group n) x listed r v p both some inner e = planted_over (group_rows x of_list false r v p) inner ∙ e
-  planted_element (group n) x middle r v p both some inner e = planted_over (group_rows x of_list false r v p) inner ∙ e
-  planted_element (group n) x entries r v p both some inner e = planted_over (group_rows x (items_of entries) false r v p) inner ∙ e
-  planted_element (group n) x (broken m) r v p both some inner e = planted_over (group_rows x of_list true r v p) inner ∙ e
-  planted_element (group n) x mapped r v p both some inner e =
-      planted_over (group_rows x of_list false r v p) (both_sides mapped both inner) ∙ planted_both both inner ∙ ap (λ (b : Bool). both && b) e
+  planted_element (group n) x (Ok own) r v p both some inner e = planted_over (group_rows x of_list true r v p) inner ∙ e
+  planted_element (group n) x (Ok listed) r v p both some inner e = planted_over (group_rows x of_list false r v p) inner ∙ e
+  planted_element (group n) x (Ok middle) r v p both some inner e = planted_over (group_rows x of_list false r v p) inner ∙ e
+  planted_element (group n) x (Ok entries) r v p both some inner e = planted_over (group_rows x (items_of (Ok entries)) false r v p) inner ∙ e
+  planted_element (group n) x (Err m) r v p both some inner e = planted_over (group_rows x of_list true r v p) inner ∙ e
+  planted_element (group n) x (Ok mapped) r v p both some inner e =
+      planted_over (group_rows x of_list false r v p) (both_sides (Ok mapped) both inner) ∙ planted_both both inner ∙ ap (λ (b : Bool). both && b) e
 
 pub yields_rows : YieldsRows
 unfolding shape
@@ -88,7 +89,7 @@ groups_wrap : (x : Read) (i : Items) (r : Repetition) (v : Levels) (p : Bool) �
 groups_wrap x i r v p = subst Groups (append-nil (wrap x i r v p)) (groups_of x i false r v p)
 
 module _ (chosen : ℕ → Bool) where
-  tidy_element : (k : Kind) (x : Read) (role : Role) (r : Repetition) (v : Levels) (p both : Bool) (inner : Forest Made)
+  tidy_element : (k : Kind) (x : Read) (role : Result Role Refusal) (r : Repetition) (v : Levels) (p both : Bool) (inner : Forest Made)
       → Tidy inner → Tidy (element_rows chosen k x role r v p both inner)
   tidy_element (leaf c) x role r v p both inner t =
       tidy_over (wrap x of_list r v p) (groups_wrap x of_list r v p) (leaf_part (chosen x.of.leaf_number) x r v) (tidy_leaf (chosen x.of.leaf_number) x r v)

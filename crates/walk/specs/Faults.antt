@@ -1,5 +1,5 @@
 -- What the walk refuses, element by element.
-use Rattle.std.specs.Prelude.{ℕ, Bool, true, false, cond, List, [], ◌∷◌, ◌++◌, Some, None, Option}
+use Rattle.std.specs.Prelude.{ℕ, Bool, true, false, cond, List, [], ◌∷◌, ◌++◌, Some, None, Option, Ok, Err, Result}
 use Rattle.std.specs.Str.{bytes_eq}
 use Rattle.tree.specs.Forest.{Forest}
 use Rattle.tree.specs.Forest.Forest.{bare, plant}
@@ -10,7 +10,7 @@ use Rattle.schema.specs.declared.refusal.Refusal.{Refusal}
 use Rattle.schema.specs.declared.refusal.Refusal.TheVariants as no
 use Rattle.arrow.specs.declared.types.ArrowType.{ArrowType}
 use Rattle.walk.specs.declared.role.Role.{Role}
-use Rattle.walk.specs.declared.role.Role.TheVariants.{Own as own, Listed as listed, Middle as middle, Mapped as mapped, Entries as entries, Broken as broken}
+use Rattle.walk.specs.declared.role.Role.TheVariants.{Own as own, Listed as listed, Middle as middle, Mapped as mapped, Entries as entries}
 use Rattle.walk.specs.Forests.{trees}
 use Rattle.walk.specs.Hints.{Hint, any_list, plain_list, any_struct, any_map, fits, has_children, over_two}
 use Rattle.walk.specs.Reading.{Read}
@@ -49,13 +49,13 @@ type_checks e None = no.LeafType e ∷ []
 type_checks e (Some t) = []
 
 -- 10 to 17 stand in the role of a group that breaks the rules; its hint is not looked at any more
-abbrev pub group_checks : ℕ → Role → Bool → Forest Hint → ℕ → List Refusal
-group_checks e own w hint n = wrap_checks e w hint ++ struct_checks e (unwrap w hint) n
-group_checks e listed w hint n = list_checks e hint
-group_checks e middle w hint n = []
-group_checks e mapped w hint n = map_checks e hint
-group_checks e entries w hint n = []
-group_checks e (broken r) w hint n = r ∷ []
+abbrev pub group_checks : ℕ → Result Role Refusal → Bool → Forest Hint → ℕ → List Refusal
+group_checks e (Ok own) w hint n = wrap_checks e w hint ++ struct_checks e (unwrap w hint) n
+group_checks e (Ok listed) w hint n = list_checks e hint
+group_checks e (Ok middle) w hint n = []
+group_checks e (Ok mapped) w hint n = map_checks e hint
+group_checks e (Ok entries) w hint n = []
+group_checks e (Err r) w hint n = r ∷ []
 
 -- The Arrow type of a leaf under a hint that may be absent, or none where its own type is in error.
 abbrev pub Typing : Type 0

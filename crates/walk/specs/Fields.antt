@@ -1,5 +1,5 @@
 -- Which hint reaches which element, and by which field its parent knows a row: read off one element with its children.
-use Rattle.std.specs.Prelude.{◌≡◌, ℕ, zero, suc, Bool, true, false, not, ◌&&◌, List, [], Some, None, Option, ◌≢◌}
+use Rattle.std.specs.Prelude.{◌≡◌, ℕ, zero, suc, Bool, true, false, not, ◌&&◌, List, [], Some, None, Option, ◌≢◌, Ok}
 use Rattle.std.specs.List.{slice_get}
 use Rattle.arrow.specs.declared.row.Metadata.{Metadata}
 use Rattle.walk.specs.Faults.{Typing}
@@ -29,15 +29,15 @@ Child p k y = slice_get (roots p.below) k ≡ Some y
 
 pub record HandsOn (p : Spot Read) : Type 0 where
   -- the k-th child of a struct is given the k-th field of its hint, and the names are compared
-  pub fields : p.node.role ≡ own → (k : ℕ) (y : Read) → Child p k y → (y.given.hint ≡ nth_hint k (inside (own_hint p.node))) × (y.given.named ≡ true)
+  pub fields : p.node.role ≡ Ok own → (k : ℕ) (y : Read) → Child p k y → (y.given.hint ≡ nth_hint k (inside (own_hint p.node))) × (y.given.named ≡ true)
   -- the repeated child of a group read as a list is given the list hint's child; names are not compared here and below
-  pub list_child : p.node.role ≡ listed → (y : Read) → Child p 0 y → (y.given.hint ≡ nth_hint 0 (inside p.node.given.hint)) × (y.given.named ≡ false)
+  pub list_child : p.node.role ≡ Ok listed → (y : Read) → Child p 0 y → (y.given.hint ≡ nth_hint 0 (inside p.node.given.hint)) × (y.given.named ≡ false)
   -- and by rule 5 the element is given the same
-  pub element : p.node.role ≡ middle → (y : Read) → Child p 0 y → (y.given.hint ≡ p.node.given.hint) × (y.given.named ≡ false)
+  pub element : p.node.role ≡ Ok middle → (y : Read) → Child p 0 y → (y.given.hint ≡ p.node.given.hint) × (y.given.named ≡ false)
   -- the entries of a map are given the map hint's child
-  pub map_entries : p.node.role ≡ mapped → (y : Read) → Child p 0 y → (y.given.hint ≡ nth_hint 0 (inside p.node.given.hint)) × (y.given.named ≡ false)
+  pub map_entries : p.node.role ≡ Ok mapped → (y : Read) → Child p 0 y → (y.given.hint ≡ nth_hint 0 (inside p.node.given.hint)) × (y.given.named ≡ false)
   -- key and value are given its fields
-  pub key_and_value : p.node.role ≡ entries → (k : ℕ) (y : Read) → Child p k y → (y.given.hint ≡ nth_hint k (inside p.node.given.hint)) × (y.given.named ≡ false)
+  pub key_and_value : p.node.role ≡ Ok entries → (k : ℕ) (y : Read) → Child p k y → (y.given.hint ≡ nth_hint k (inside p.node.given.hint)) × (y.given.named ≡ false)
 
 -- ── Fields ──
 
@@ -79,7 +79,7 @@ pub record FieldsBelow (typing : Typing) (p : Spot Read) : Type 0 where
   -- a map's key: its field is never null
   pub key : (k : ℕ) (y : Read) → Child p k y → y.part ≡ as_key → (row : Row) → outer_field typing y row ≡ general_field y false
   -- a map's key is the first child of the entries, its value the next
-  pub sides : p.node.role ≡ entries → (k : ℕ) (y : Read) → Child p k y → is_key y.part ≡ (first_of k)
+  pub sides : p.node.role ≡ Ok entries → (k : ℕ) (y : Read) → Child p k y → is_key y.part ≡ (first_of k)
   -- the list or map row of a LIST or MAP group is that of its repeated child, in the group's field; a key's is never null
   pub group : (k : ℕ) (y : Read) → Child p k y → by_itself y.part ≡ false → (p.node.part ≢ as_root)
       → (row : Row) → outer_field typing y row ≡ general_field p.node (not (is_key p.node.part) && row.nullable)

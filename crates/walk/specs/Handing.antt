@@ -1,10 +1,11 @@
 -- Which hint reaches which element.
-use Rattle.std.specs.Prelude.{Bool, true, false}
+use Rattle.std.specs.Prelude.{Bool, true, false, Ok, Err, Result}
 use Rattle.tree.specs.Forest.{Forest}
 use Rattle.tree.specs.Forest.Forest.{bare, plant}
 use Rattle.schema.specs.declared.basic.Repetition.{Repetition}
+use Rattle.schema.specs.declared.refusal.Refusal.{Refusal}
 use Rattle.walk.specs.declared.role.Role.{Role}
-use Rattle.walk.specs.declared.role.Role.TheVariants.{Own as own, Listed as listed, Middle as middle, Mapped as mapped, Entries as entries, Broken as broken}
+use Rattle.walk.specs.declared.role.Role.TheVariants.{Own as own, Listed as listed, Middle as middle, Mapped as mapped, Entries as entries}
 use Rattle.walk.specs.Labels.{is_repeated}
 use Rattle.walk.specs.Hints.{Hint, sole, others, inside}
 use Rattle.walk.specs.Reading.{Part, Read}
@@ -26,22 +27,22 @@ unwrap true hint = sole (inside hint)
 
 -- The hints that an element's children are given, first to first: a struct's children the hint's fields; the repeated child of a
 -- LIST group the list's child, and rule 5's element the same; the entries of a MAP group the map's child, and key and value its fields.
-abbrev pub hands_on : Role → Bool → Forest Hint → Forest Hint
-hands_on own w hint = inside (unwrap w hint)
-hands_on listed w hint = sole (inside hint)
-hands_on middle w hint = hint
-hands_on mapped w hint = sole (inside hint)
-hands_on entries w hint = inside hint
-hands_on (broken r) w hint = bare
+abbrev pub hands_on : Result Role Refusal → Bool → Forest Hint → Forest Hint
+hands_on (Ok own) w hint = inside (unwrap w hint)
+hands_on (Ok listed) w hint = sole (inside hint)
+hands_on (Ok middle) w hint = hint
+hands_on (Ok mapped) w hint = sole (inside hint)
+hands_on (Ok entries) w hint = inside hint
+hands_on (Err r) w hint = bare
 
 -- only a struct's children are compared by name
-abbrev pub compares_names : Role → Bool
-compares_names own = true
-compares_names listed = false
-compares_names middle = false
-compares_names mapped = false
-compares_names entries = false
-compares_names (broken r) = false
+abbrev pub compares_names : Result Role Refusal → Bool
+compares_names (Ok own) = true
+compares_names (Ok listed) = false
+compares_names (Ok middle) = false
+compares_names (Ok mapped) = false
+compares_names (Ok entries) = false
+compares_names (Err r) = false
 
 -- the hint of the field that the outermost row stands in: for the repeated child of a LIST or MAP group, the group's; the root's field has none
 abbrev pub field_hint : Part → Forest Hint → Forest Hint → Forest Hint

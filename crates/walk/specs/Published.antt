@@ -1,5 +1,5 @@
 -- Lists and maps as the page on logical types of the Parquet format describes them, sentence by sentence, apart from how the walk reads them.
-use Rattle.std.specs.Prelude.{◌≡◌, ℕ, true, false, ◌⊎◌, List, [], ◌∷◌, ◌++◌, map, Some, None, codes, Option, ◌≢◌}
+use Rattle.std.specs.Prelude.{◌≡◌, ℕ, true, false, ◌⊎◌, List, [], ◌∷◌, ◌++◌, map, Some, None, codes, Option, ◌≢◌, Ok}
 use Rattle.walk.specs.Forests.{first_below, roots}
 use Rattle.walk.specs.Labels.{Numbered, is_leaf, is_optional}
 use Rattle.walk.specs.Reading.{Part, Read, nobody, reading, role_of}
@@ -86,7 +86,7 @@ read_below g below = first_below (reading as_field nobody (plant g below bare))
 
 -- elements may be absent where the row of the element is null, which it is if the element is optional
 pub record ListAgrees (g c : Numbered) (cb : Forest Numbered) : Type 0 where
-  pub role : role_of as_field g (plant c cb bare) ≡ listed
+  pub role : role_of as_field g (plant c cb bare) ≡ Ok listed
   pub element : (x : Numbered) (r : Repetition) → ElementType g.name c cb x r
       → (read_element (read_below g (plant c cb bare)) ≡ Some x) × (is_optional x.repetition ≡ is_optional r)
   -- the list is nullable exactly if the group is optional
@@ -94,7 +94,7 @@ pub record ListAgrees (g c : Numbered) (cb : Forest Numbered) : Type 0 where
 
 -- the parts of a map, of what is read below its group
 pub record MapAgrees (g e : Numbered) (sides : Forest Numbered) (k v : Numbered) : Type 0 where
-  pub role : role_of as_field g (plant e sides bare) ≡ mapped
+  pub role : role_of as_field g (plant e sides bare) ≡ Ok mapped
   pub parts : map (λ (y : Read). y.part) (roots (first_below (read_below g (plant e sides bare)))) ≡ as_key ∷ as_field ∷ []
   pub key_value : map (λ (y : Read). y.of) (roots (first_below (read_below g (plant e sides bare)))) ≡ k ∷ v ∷ []
   pub nullable : passes_null (has_own (role_of as_field g (plant e sides bare))) g.repetition ≡ is_optional g.repetition

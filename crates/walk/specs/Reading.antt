@@ -1,5 +1,5 @@
 -- How each element of a schema is read. All rules for LIST and MAP stand here: what a group is, and what its repeated child is.
-use Rattle.std.specs.Prelude.{ℕ, Bool, true, false, cond, not, ◌&&◌, ◌||◌, List, [], ◌++◌, ℤ, None, codes, Option, Some}
+use Rattle.std.specs.Prelude.{ℕ, Bool, true, false, cond, not, ◌&&◌, ◌||◌, List, [], ◌++◌, ℤ, None, codes, Option, Some, Ok, Err, Result}
 use Rattle.std.specs.Str.{bytes_eq}
 use Rattle.tree.specs.Forest.{Forest}
 use Rattle.tree.specs.Forest.Forest.{bare, plant}
@@ -9,8 +9,9 @@ use Rattle.schema.specs.declared.basic.Annotation.TheVariants as a
 use Rattle.schema.specs.declared.element.Kind.{Kind}
 use Rattle.schema.specs.declared.element.Kind.TheVariants.{Leaf as leaf, Group as group}
 use Rattle.schema.specs.declared.refusal.Refusal.TheVariants as no
+use Rattle.schema.specs.declared.refusal.Refusal.{Refusal}
 use Rattle.walk.specs.declared.role.Role.{Role}
-use Rattle.walk.specs.declared.role.Role.TheVariants.{Own as own, Listed as listed, Middle as middle, Mapped as mapped, Entries as entries, Broken as broken}
+use Rattle.walk.specs.declared.role.Role.TheVariants.{Own as own, Listed as listed, Middle as middle, Mapped as mapped, Entries as entries}
 use Rattle.walk.specs.Labels.{Numbered, is_leaf, is_repeated, repeated_element}
 use Rattle.walk.specs.Hints.{Given, nothing}
 
@@ -39,37 +40,37 @@ is_element group_name name (group n) (plant x xb (plant y yb after)) = true
 -- ── LIST and MAP groups; n is the group's number ──
 
 -- A LIST group has one child, which is repeated, and is not repeated itself.
-abbrev pub list_child : ℕ → Bool → Bool → Role
-list_child n false again = broken (no.ListChildNotRepeated n)
-list_child n true true = broken (no.ListRepeated n)
-list_child n true false = listed
+abbrev pub list_child : ℕ → Bool → Bool → Result Role Refusal
+list_child n false again = Err (no.ListChildNotRepeated n)
+list_child n true true = Err (no.ListRepeated n)
+list_child n true false = Ok listed
 
-abbrev pub list_role : ℕ → Repetition → Forest Numbered → Role
-list_role n rep bare = broken (no.ListChildren n)
+abbrev pub list_role : ℕ → Repetition → Forest Numbered → Result Role Refusal
+list_role n rep bare = Err (no.ListChildren n)
 list_role n rep (plant c cb bare) = list_child n (repeated_element c) (is_repeated rep)
-list_role n rep (plant c cb (plant d db after)) = broken (no.ListChildren n)
+list_role n rep (plant c cb (plant d db after)) = Err (no.ListChildren n)
 
 -- The repeated child of a MAP group has one child, and is read by LIST's rules, or two, key and value, neither repeated.
-abbrev pub entries_role : ℕ → Forest Numbered → Role
-entries_role n bare = broken (no.EntriesChildren n)
-entries_role n (plant k kb bare) = listed
-entries_role n (plant k kb (plant v vb bare)) = cond (repeated_element k || repeated_element v) (broken (no.EntryRepeated n)) mapped
-entries_role n (plant k kb (plant v vb (plant w wb after))) = broken (no.EntriesChildren n)
+abbrev pub entries_role : ℕ → Forest Numbered → Result Role Refusal
+entries_role n bare = Err (no.EntriesChildren n)
+entries_role n (plant k kb bare) = Ok listed
+entries_role n (plant k kb (plant v vb bare)) = cond (repeated_element k || repeated_element v) (Err (no.EntryRepeated n)) (Ok mapped)
+entries_role n (plant k kb (plant v vb (plant w wb after))) = Err (no.EntriesChildren n)
 
 -- A MAP group is not repeated, and has one child, a repeated group.
-abbrev pub map_child : ℕ → Forest Numbered → Role
-map_child n bare = broken (no.MapChildren n)
+abbrev pub map_child : ℕ → Forest Numbered → Result Role Refusal
+map_child n bare = Err (no.MapChildren n)
 map_child n (plant e eb bare) =
-    cond (repeated_element e && not (is_leaf e.kind)) (entries_role n eb) (broken (no.MapChildNotRepeatedGroup n))
-map_child n (plant e eb (plant d db after)) = broken (no.MapChildren n)
+    cond (repeated_element e && not (is_leaf e.kind)) (entries_role n eb) (Err (no.MapChildNotRepeatedGroup n))
+map_child n (plant e eb (plant d db after)) = Err (no.MapChildren n)
 
-abbrev pub map_role : ℕ → Repetition → Forest Numbered → Role
-map_role n rep below = cond (is_repeated rep) (broken (no.MapRepeated n)) (map_child n below)
+abbrev pub map_role : ℕ → Repetition → Forest Numbered → Result Role Refusal
+map_role n rep below = cond (is_repeated rep) (Err (no.MapRepeated n)) (map_child n below)
 
 -- how an element is read by its own annotation
-abbrev pub by_annotation : ℕ → Kind → Repetition → Forest Numbered → Role
-by_annotation n (leaf l) rep below = own
-by_annotation n (group None) rep below = own
+abbrev pub by_annotation : ℕ → Kind → Repetition → Forest Numbered → Result Role Refusal
+by_annotation n (leaf l) rep below = Ok own
+by_annotation n (group None) rep below = Ok own
 by_annotation n (group (Some a.List)) rep below = list_role n rep below
 by_annotation n (group (Some a.Map)) rep below = map_role n rep below
 by_annotation n (group (Some a.MapKeyValue)) rep below = map_role n rep below
@@ -91,26 +92,26 @@ pub data Part : Type 0 where
   as_entries : Part
 
 -- Only a root, field or key is read by its own annotation; the repeated child of a LIST or MAP group is not.
-abbrev pub role_of : Part → Numbered → Forest Numbered → Role
+abbrev pub role_of : Part → Numbered → Forest Numbered → Result Role Refusal
 role_of as_root x below = by_annotation x.number x.kind x.repetition below
 role_of as_field x below = by_annotation x.number x.kind x.repetition below
 role_of as_key x below = by_annotation x.number x.kind x.repetition below
-role_of as_element x below = own
-role_of as_middle x below = middle
-role_of as_entries x below = entries
+role_of as_element x below = Ok own
+role_of as_middle x below = Ok middle
+role_of as_entries x below = Ok entries
 
 abbrev pub first_is_element : List ℕ → Forest Numbered → Bool
 first_is_element group_name bare = true
 first_is_element group_name (plant c cb after) = is_element group_name c.name c.kind cb
 
 -- what the first child of an element is to it, and what the child after another is
-abbrev pub child_part : Role → List ℕ → Forest Numbered → Part
-child_part own name below = as_field
-child_part listed name below = cond (first_is_element name below) as_element as_middle
-child_part middle name below = as_field
-child_part mapped name below = as_entries
-child_part entries name below = as_key
-child_part (broken r) name below = as_field
+abbrev pub child_part : Result Role Refusal → List ℕ → Forest Numbered → Part
+child_part (Ok own) name below = as_field
+child_part (Ok listed) name below = cond (first_is_element name below) as_element as_middle
+child_part (Ok middle) name below = as_field
+child_part (Ok mapped) name below = as_entries
+child_part (Ok entries) name below = as_key
+child_part (Err r) name below = as_field
 
 abbrev pub next_part : Part → Part
 next_part as_root = as_root
@@ -144,7 +145,7 @@ held_by as_entries g x = g
 -- An element with all that its rows depend on.
 pub record Read : Type 0 where
   pub of : Numbered
-  pub role : Role
+  pub role : Result Role Refusal
   pub part : Part
   -- of its outermost row
   pub holder : Holder

@@ -1,5 +1,5 @@
 -- What is wrong at an element, with its children and its hint: each fault by itself, whatever else is wrong. And the first fault in walking order.
-use Rattle.std.specs.Prelude.{◌≡◌, ℕ, Bool, true, false, cond, not, ◌&&◌, ◌||◌, List, [], ◌∷◌, ◌++◌, Some, None, Option, ◌==◌}
+use Rattle.std.specs.Prelude.{◌≡◌, ℕ, Bool, true, false, cond, not, ◌&&◌, ◌||◌, List, [], ◌∷◌, ◌++◌, Some, None, Option, ◌==◌, Ok, Err, Result}
 use Rattle.std.specs.Str.{bytes_eq}
 use Rattle.std.specs.List.{AllByRecursion}
 use Rattle.arrow.specs.declared.types.ArrowType.{ArrowType}
@@ -11,7 +11,7 @@ use Rattle.walk.specs.Labels.{is_leaf, is_repeated}
 use Rattle.walk.specs.Reading.{Part, Read}
 use Rattle.walk.specs.Reading.Part.{as_element, as_entries, as_field, as_key, as_middle, as_root}
 use Rattle.walk.specs.declared.role.Role.{Role}
-use Rattle.walk.specs.declared.role.Role.TheVariants.{Broken as broken, Entries as entries, Listed as listed, Mapped as mapped, Middle as middle, Own as own}
+use Rattle.walk.specs.declared.role.Role.TheVariants.{Entries as entries, Listed as listed, Mapped as mapped, Middle as middle, Own as own}
 use Rattle.schema.specs.Refusals.{number_of}
 use Rattle.schema.specs.declared.basic.Repetition.{Repetition}
 use Rattle.schema.specs.declared.element.Kind.{Kind}
@@ -105,13 +105,13 @@ struct_faults e w hint n =
     ++ (when (no_such any_struct (unwrap w hint)) (no.HintKind e)
     ++ when (miscounted n (unwrap w hint)) (no.HintFieldCount e))
 
-abbrev pub group_faults : ℕ → Role → Bool → Forest Hint → ℕ → List Refusal
-group_faults e own w hint n = struct_faults e w hint n
-group_faults e listed w hint n = when (no_such any_list hint) (no.HintKind e)
-group_faults e middle w hint n = []
-group_faults e mapped w hint n = when (no_such any_map hint) (no.HintKind e) ++ when (not_over_two hint) (no.HintMap e)
-group_faults e entries w hint n = []
-group_faults e (broken r) w hint n = []
+abbrev pub group_faults : ℕ → Result Role Refusal → Bool → Forest Hint → ℕ → List Refusal
+group_faults e (Ok own) w hint n = struct_faults e w hint n
+group_faults e (Ok listed) w hint n = when (no_such any_list hint) (no.HintKind e)
+group_faults e (Ok middle) w hint n = []
+group_faults e (Ok mapped) w hint n = when (no_such any_map hint) (no.HintKind e) ++ when (not_over_two hint) (no.HintMap e)
+group_faults e (Ok entries) w hint n = []
+group_faults e (Err r) w hint n = []
 
 module _ (typing : Typing) (chosen : ℕ → Bool) where
   abbrev pub hint_faults : Kind → Read → Bool → ℕ → List Refusal

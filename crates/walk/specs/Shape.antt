@@ -1,5 +1,5 @@
 -- The rows that a schema gives by itself, without hints: their levels, nullability, fields' names and nullability, and numbers.
-use Rattle.std.specs.Prelude.{ℕ, suc, Bool, true, false, cond, not, ◌&&◌, List, [], ◌∷◌, ◌++◌}
+use Rattle.std.specs.Prelude.{ℕ, suc, Bool, true, false, cond, not, ◌&&◌, List, [], ◌∷◌, ◌++◌, Ok, Err, Result}
 use Rattle.arrow.specs.declared.row.LeafNumbers.{LeafNumbers}
 use Rattle.walk.specs.Forests.{beside, over, relabel}
 use Rattle.walk.specs.Labels.{is_optional, is_repeated, numbered}
@@ -7,8 +7,9 @@ use Rattle.walk.specs.Reading.{Read, nobody, reading}
 use Rattle.walk.specs.Reading.Part.{as_root}
 use Rattle.walk.specs.Yields.{both_yield}
 use Rattle.walk.specs.declared.levels.Levels.{Levels}
+use Rattle.schema.specs.declared.refusal.Refusal.{Refusal}
 use Rattle.walk.specs.declared.role.Role.{Role}
-use Rattle.walk.specs.declared.role.Role.TheVariants.{Broken as broken, Entries as entries, Listed as listed, Mapped as mapped, Middle as middle, Own as own}
+use Rattle.walk.specs.declared.role.Role.TheVariants.{Entries as entries, Listed as listed, Mapped as mapped, Middle as middle, Own as own}
 use Rattle.schema.specs.Words.{Spelled}
 use Rattle.schema.specs.declared.basic.Repetition.{Repetition}
 use Rattle.schema.specs.declared.basic.Repetition.TheVariants.{Optional as optional, Repeated as repeated, Required as required}
@@ -49,22 +50,22 @@ raised v optional = record { rep = v.rep; def = suc v.def }
 raised v repeated = record { rep = suc v.rep; def = suc v.def }
 
 -- which roles have a leaf or struct row of their own
-abbrev pub has_own : Role → Bool
-has_own own = true
-has_own listed = false
-has_own middle = false
-has_own mapped = false
-has_own entries = false
-has_own (broken n) = true
+abbrev pub has_own : Result Role Refusal → Bool
+has_own (Ok own) = true
+has_own (Ok listed) = false
+has_own (Ok middle) = false
+has_own (Ok mapped) = false
+has_own (Ok entries) = false
+has_own (Err n) = true
 
 -- a map row is that of the entries
-abbrev pub items_of : Role → Items
-items_of own = of_list
-items_of listed = of_list
-items_of middle = of_list
-items_of mapped = of_list
-items_of entries = of_map
-items_of (broken n) = of_list
+abbrev pub items_of : Result Role Refusal → Items
+items_of (Ok own) = of_list
+items_of (Ok listed) = of_list
+items_of (Ok middle) = of_list
+items_of (Ok mapped) = of_list
+items_of (Ok entries) = of_map
+items_of (Err n) = of_list
 
 -- Every repeated element has a list or map row of its own levels. It is null if it stands for an optional LIST or MAP group above.
 abbrev pub wrap : Read → Items → Repetition → Levels → Bool → List Made
@@ -98,17 +99,17 @@ abbrev pub passes_null : Bool → Repetition → Bool
 passes_null o r = not o && is_optional r
 
 -- a map of which key or value does not yield gives nothing
-abbrev pub both_sides : {A : Type 0} → Role → Bool → Forest A → Forest A
-both_sides own both f = f
-both_sides listed both f = f
-both_sides middle both f = f
-both_sides mapped both f = cond both f bare
-both_sides entries both f = f
-both_sides (broken n) both f = f
+abbrev pub both_sides : {A : Type 0} → Result Role Refusal → Bool → Forest A → Forest A
+both_sides (Ok own) both f = f
+both_sides (Ok listed) both f = f
+both_sides (Ok middle) both f = f
+both_sides (Ok mapped) both f = cond both f bare
+both_sides (Ok entries) both f = f
+both_sides (Err n) both f = f
 
 module _ (chosen : ℕ → Bool) where
   -- The rows of one element at its levels v, round those of what is below it.
-  abbrev pub element_rows : Kind → Read → Role → Repetition → Levels → Bool → Bool → Forest Made → Forest Made
+  abbrev pub element_rows : Kind → Read → Result Role Refusal → Repetition → Levels → Bool → Bool → Forest Made → Forest Made
   element_rows (leaf l) x role r v null_above both inner = over (wrap x of_list r v null_above) (leaf_part (chosen x.of.leaf_number) x r v)
   element_rows (group n) x role r v null_above both inner =
       over (group_rows x (items_of role) (has_own role) r v null_above) (both_sides role both inner)

@@ -1,7 +1,5 @@
 // How the walk reads an element.
-use schema::Refusal;
-
-#[derive(Clone, Copy)]
+#[derive(Clone, Copy, PartialEq, Eq, Debug)]
 pub enum Role {
     // a leaf, or a group read as a struct: it has a row of its own
     Own,
@@ -13,6 +11,4 @@ pub enum Role {
     Mapped,
     // that repeated child
     Entries,
-    // a LIST or MAP group that breaks the rules
-    Broken(Refusal),
 }

@@ -2,7 +2,7 @@ use Rattle.std.proofs.Common.{ℕ, ◌-◌, ◌≤◌, length, Result, sym, refl
 use Rattle.std.proofs.lemmas.Result.{err_from_is_err_and}
 use Rattle.schema.specs.declared.refusal.Refusal.{Refusal}
 use Rattle.schema.specs.Rows.{IsFinished}
-use Rattle.convert.specs.Uncleared.{used_of}
+use Rattle.std.specs.Result.{result_unwrap_or}
 use Rattle.convert.specs.Uncleared.Uncleared.{other_memory}
 use Rattle.convert.proofs.Cleared.{lent_on, step_hint, step_room, step_flags, step_walk, whole_hints}
 use Rattle.convert.proofs.walk_schema.Goals as goal
@@ -30,7 +30,7 @@ pub returns-in_err-choose : goal.returns-in_err-choose
 returns-in_err-choose g c =
     let p = err_from_is_err_and c.from_residual.result c.from_residual.ensures.1 in
     record {
-      fits = subst (λ (r : Result ℕ Refusal). used_of r ≤ length c.args.rows.now) (sym p.1) (omega arith);
+      fits = subst (λ (r : Result ℕ Refusal). result_unwrap_or r 0 ≤ length c.args.rows.now) (sym p.1) (omega arith);
       walked =
           step_flags c.args.schema.now c.args.elements.now c.args.names.now (g.S.Selection.chosen c.args.selection.now) c.args.hints.rows.now c.args.hints.text.now (length c.args.rows.now) (length c.args.chosen.now)
           c.if-not-check.ensures.told c.if-not-check_hints.ensures.accepts c.elements-count.result c.elements-count.ensures.count

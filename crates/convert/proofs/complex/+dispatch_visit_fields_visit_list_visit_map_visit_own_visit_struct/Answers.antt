@@ -1,125 +1,109 @@
-use Rattle.std.proofs.Common.{◌≡◌, ◌+◌, ◌⊎◌, length, sym, refl, ◌∙◌, inl, inr, arith}
+use Rattle.std.proofs.Common.{◌≡◌, ◌+◌, ◌⊎◌, length, sym, refl, ◌∙◌, inl, inr, arith, Ok}
 use Rattle.std.proofs.lemmas.Result.{err_from_is_err_and}
-use Rattle.walk.specs.declared.role.Role.TheVariants.{Own as own, Listed as listed, Middle as middle, Mapped as mapped, Entries as entries, Broken as broken}
+use Rattle.walk.specs.Hints.{any_list}
+use Rattle.walk.specs.declared.role.Role.TheVariants.{Own as own, Listed as listed, Mapped as mapped}
 use Rattle.convert.specs.Visit.{read_by}
 use Rattle.convert.proofs.Structs.{own_leaf}
 use Rattle.convert.proofs.ListVisit.{list_refused, child_ready, visits_itself, item_ready, item_off, item_done}
 use Rattle.convert.proofs.MapVisit.{places_in, map_refused, key_handed, key_ready, key_off, value_handed, value_ready, rows_end, value_off, half_taken, taken}
 use Rattle.convert.proofs.Visited.{within_ready, within_past, within_hinted, struct_misfit, struct_other, struct_broken, struct_done}
-use Rattle.convert.proofs.Dispatched.{dispatch_misnamed, dispatch_by, dispatch_broken, own_as, never_middle, never_entries}
+use Rattle.convert.proofs.Dispatched.{dispatch_misnamed, dispatch_by, dispatch_broken, own_as, never_below, reads_as}
 use Rattle.convert.proofs.Inside.{begins, next_measure, next_ready, next_hinted, broken_off, next_falls, onward, finished}
 use Rattle.convert.proofs.complex.+dispatch_visit_fields_visit_list_visit_map_visit_own_visit_struct.Goals as goal
 use Rattle.convert.proofs.complex.+dispatch_visit_fields_visit_list_visit_map_visit_own_visit_struct.Goals.{visit_map-then-middle-from-via-then-middle-from, visit_map-then-middle-from-via-else-middle-from+then-cursor-middle}
 
--- src/complex.rt:374:5
 pub dispatch-returns-in_err-check_name : goal.dispatch-returns-in_err-check_name
 dispatch-returns-in_err-check_name t c =
     let p = err_from_is_err_and c.from_residual.result c.from_residual.ensures.1 in
     rw (p.1, p.2) (dispatch_misnamed (read_by c.args.source) c.args.at c.args.task c.args.from c.args.rows.now c.args.rows.now _ c.in_err-check_name.ensures)
 
--- src/complex.rt:380:41
 pub dispatch-unreachable-requires : goal.dispatch-unreachable-requires
-dispatch-unreachable-requires t c =
-    go c.in-Middle.is
-  where
-    go : (c.role_at.result ≡ middle) ⊎ (c.role_at.result ≡ entries) → ⊥
-    go (inl h) = never_middle c.args.source.elements.now c.args.at c.role_at.result c.role_at.ensures c.requires.ready.root h
-    go (inr h) = never_entries c.args.source.elements.now c.args.at c.role_at.result c.role_at.ensures c.requires.ready.root h
+dispatch-unreachable-requires t c = never_below c.args.source.elements.now c.args.at _ c.in_ok-role_at.ensures c.requires.ready.root c.in-Middle.is
 
--- src/complex.rt:367:1
 pub dispatch-returns-in-Own : goal.dispatch-returns-in-Own
 dispatch-returns-in-Own t c =
-    dispatch_by (read_by c.args.source) c.args.at c.args.task c.args.from c.args.rows.now c.visit_own.new.rows c.in_ok-check_name.ensures own c.in-Own.ensures c.visit_own.result
+    dispatch_by (read_by c.args.source) c.args.at c.args.task c.args.from c.args.rows.now c.visit_own.new.rows c.in_ok-check_name.ensures (Ok own) (reads_as own c.in-Own.is c.in_ok-role_at.ensures) c.visit_own.result
     (own_as (read_by c.args.source) c.args.at c.args.task c.args.from c.args.rows.now c.visit_own.new.rows c.field_seat.result c.field_seat.ensures.levels c.field_seat.ensures.above c.field_seat.ensures.seats c.visit_own.result c.visit_own.ensures)
 
--- src/complex.rt:367:1
 pub dispatch-returns-in-Listed : goal.dispatch-returns-in-Listed
 dispatch-returns-in-Listed t c =
-    dispatch_by (read_by c.args.source) c.args.at c.args.task c.args.from c.args.rows.now c.visit_list.new.rows c.in_ok-check_name.ensures listed c.in-Listed.ensures c.visit_list.result c.visit_list.ensures
+    dispatch_by (read_by c.args.source) c.args.at c.args.task c.args.from c.args.rows.now c.visit_list.new.rows c.in_ok-check_name.ensures (Ok listed) (reads_as listed c.in-Listed.is c.in_ok-role_at.ensures) c.visit_list.result c.visit_list.ensures
 
--- src/complex.rt:367:1
 pub dispatch-returns-in-Mapped : goal.dispatch-returns-in-Mapped
 dispatch-returns-in-Mapped t c =
-    dispatch_by (read_by c.args.source) c.args.at c.args.task c.args.from c.args.rows.now c.visit_map.new.rows c.in_ok-check_name.ensures mapped c.in-Mapped.ensures c.visit_map.result c.visit_map.ensures
+    dispatch_by (read_by c.args.source) c.args.at c.args.task c.args.from c.args.rows.now c.visit_map.new.rows c.in_ok-check_name.ensures (Ok mapped) (reads_as mapped c.in-Mapped.is c.in_ok-role_at.ensures) c.visit_map.result c.visit_map.ensures
 
--- src/complex.rt:367:1
-pub dispatch-returns-in-Broken : goal.dispatch-returns-in-Broken
-dispatch-returns-in-Broken t c =
-    dispatch_broken (read_by c.args.source) c.args.at c.args.task c.args.from c.args.rows.now c.args.rows.now c.in_ok-check_name.ensures (broken c.in-Broken.refusal) c.in-Broken.ensures c.in-Broken.refusal refl
+pub dispatch-returns-in_err-role_at : goal.dispatch-returns-in_err-role_at
+dispatch-returns-in_err-role_at t c =
+    let p = err_from_is_err_and c.from_residual-in_err-role_at.result c.from_residual-in_err-role_at.ensures.1 in
+    rw (p.1, p.2) (dispatch_broken (read_by c.args.source) c.args.at c.args.task c.args.from c.args.rows.now c.args.rows.now c.in_ok-check_name.ensures _ c.in_err-role_at.ensures _ refl)
 
--- src/complex.rt:276:5
+pub dispatch-visit_list-requires : goal.dispatch-visit_list-requires
+dispatch-visit_list-requires t c = (omega (arith, c.decreases), (c.requires.ready, (c.requires.hints, (c.requires.hinted, reads_as listed c.in-Listed.is c.in_ok-role_at.ensures))))
+
+pub dispatch-visit_map-requires : goal.dispatch-visit_map-requires
+dispatch-visit_map-requires t c = (omega (arith, c.decreases), (c.requires.ready, (c.requires.hints, (c.requires.hinted, reads_as mapped c.in-Mapped.is c.in_ok-role_at.ensures))))
+
 pub visit_fields-loop-next-init : goal.visit_fields-loop-next-init
 visit_fields-loop-next-init t c =
     begins c.requires.ready c.requires.hinted c.first_child-next.result (simp c.new-tree.ensures.rows at c.first_child-next.ensures.by_size) c.first_hint-given.result c.first_hint-given.ensures
 
--- src/complex.rt:283:18
 pub visit_fields-dispatch-requires : goal.visit_fields-dispatch-requires
 visit_fields-dispatch-requires t c =
     let m = next_measure c.loop-next.invariant c.in-Some.child c.in-Some.is in
     (omega (arith, c.decreases, m), (next_ready c.loop-next.invariant c.in-Some.child c.in-Some.is, (c.requires.hints, next_hinted c.loop-next.invariant)))
 
--- src/complex.rt:283:18
 pub visit_fields-returns-in_err-cursor : goal.visit_fields-returns-in_err-cursor
 visit_fields-returns-in_err-cursor t c =
     let p = err_from_is_err_and c.from_residual.result c.from_residual.ensures.1 in
     rw (p.1, p.2) (broken_off c.loop-next.invariant c.in-Some.child c.in-Some.is _ c.dispatch.new.rows c.in_err-cursor.ensures)
 
--- src/complex.rt:276:5
 pub visit_fields-loop-next-smaller : goal.visit_fields-loop-next-smaller
 visit_fields-loop-next-smaller t c =
     next_falls c.loop-next.invariant c.in-Some.child c.in-Some.is c.next_sibling-next.result (simp c.new-tree.ensures.rows at c.next_sibling-next.ensures.by_size)
 
--- src/complex.rt:276:5
 pub visit_fields-loop-next-preserved : goal.visit_fields-loop-next-preserved
 visit_fields-loop-next-preserved t c =
     onward c.loop-next.invariant c.in-Some.child c.in-Some.is c.in_ok-cursor.cursor c.dispatch.new.rows (omega arith) c.in_ok-cursor.ensures
     c.next_sibling-next.result (simp c.new-tree.ensures.rows at c.next_sibling-next.ensures.by_size) c.next_hint-given.result c.next_hint-given.ensures
 
--- src/complex.rt:259:1
 pub visit_fields-returns : goal.visit_fields-returns
 visit_fields-returns t c =
     finished c.loop-next.invariant c.in_default.is
 
--- src/complex.rt:299:9
-pub visit_list-returns-then-not-fits_list : goal.visit_list-returns-then-not-fits_list
-visit_list-returns-then-not-fits_list t c =
-    list_refused (read_by c.args.source) c.args.at c.args.task c.args.from c.args.rows.now c.requires.reads (λ hs p. sym (c.fits_list.ensures c.args.source.text.now hs p) ∙ c.if-not-fits_list.true) c.args.rows.now
+pub visit_list-returns-then-not-fits : goal.visit_list-returns-then-not-fits
+visit_list-returns-then-not-fits t c =
+    list_refused (read_by c.args.source) c.args.at c.args.task c.args.from c.args.rows.now c.requires.reads (λ hs p. sym (c.fits.ensures c.args.source.text.now hs p any_list (λ x b q. q.1)) ∙ c.if-not-fits.true) c.args.rows.now
 
--- src/complex.rt:306:9
 pub visit_list-visit_own-requires : goal.visit_list-visit_own-requires
 visit_list-visit_own-requires t c =
     let z = child_ready (read_by c.args.source) c.args.at c.args.task c.args.from c.args.rows.now c.requires.reads c.element_seat-seat.result.levels (c.element_seat-seat.ensures.levels ∙ c.raise-levels.ensures) _ c.requires.ready in
     let (hs, p) = c.requires.hinted in
     (omega (arith, c.decreases, z.0), (z.1, (c.requires.hints, (_, (c.element_seat-seat.ensures.seats 0 0 hs p).hint))))
 
--- src/complex.rt:306:9
 pub visit_list-returns-then-is_element : goal.visit_list-returns-then-is_element
 visit_list-returns-then-is_element t c =
-    visits_itself (read_by c.args.source) c.args.at c.args.task c.args.from c.args.rows.now c.requires.reads (λ hs p. sym (c.fits_list.ensures c.args.source.text.now hs p) ∙ c.if-not-fits_list.false)
+    visits_itself (read_by c.args.source) c.args.at c.args.task c.args.from c.args.rows.now c.requires.reads (λ hs p. sym (c.fits.ensures c.args.source.text.now hs p any_list (λ x b q. q.1)) ∙ c.if-not-fits.false)
     c.is_element.result c.is_element.ensures c.if-is_element.true c.element_seat-seat.result (c.element_seat-seat.ensures.levels ∙ c.raise-levels.ensures) c.element_seat-seat.ensures.above c.element_seat-seat.ensures.seats
     c.visit_own.new.rows c.visit_own.result c.visit_own.ensures
 
--- src/complex.rt:308:32
 pub visit_list-bounds-source-child : goal.visit_list-bounds-source-child
 visit_list-bounds-source-child t c =
     let z = child_ready (read_by c.args.source) c.args.at c.args.task c.args.from c.args.rows.now c.requires.reads c.raise-levels.result c.raise-levels.ensures _ c.requires.ready in
     omega (arith, z.1.root.inside)
 
--- src/complex.rt:319:18
 pub visit_list-dispatch-requires : goal.visit_list-dispatch-requires
 visit_list-dispatch-requires t c =
     let z = item_ready (read_by c.args.source) c.args.at c.args.task c.args.from c.args.rows.now c.requires.reads c.is_element.result c.is_element.ensures c.if-is_element.false c.raise-levels.result c.raise-levels.ensures c.raise-deeper.result c.raise-deeper.ensures _ c.requires.ready in
     let (hs, p) = c.requires.hinted in
     (omega (arith, c.decreases, z.0), (z.1, (c.requires.hints, (_, (c.element_seat-seat.ensures.seats 0 0 hs p).hint))))
 
--- src/complex.rt:319:18
 pub visit_list-returns-in_err-cursor : goal.visit_list-returns-in_err-cursor
 visit_list-returns-in_err-cursor t c =
     let p = err_from_is_err_and c.from_residual.result c.from_residual.ensures.1 in
     rw (p.1, p.2)
-    (item_off (read_by c.args.source) c.args.at c.args.task c.args.from c.args.rows.now c.requires.reads c.is_element.result c.is_element.ensures c.if-is_element.false c.raise-levels.result c.raise-levels.ensures c.raise-deeper.result c.raise-deeper.ensures (λ hs p. sym (c.fits_list.ensures c.args.source.text.now hs p) ∙ c.if-not-fits_list.false) c.element_seat-seat.result.hint (λ hs p. (c.element_seat-seat.ensures.seats 0 0 hs p).hint) c.dispatch.new.rows _ c.in_err-cursor.ensures)
+    (item_off (read_by c.args.source) c.args.at c.args.task c.args.from c.args.rows.now c.requires.reads c.is_element.result c.is_element.ensures c.if-is_element.false c.raise-levels.result c.raise-levels.ensures c.raise-deeper.result c.raise-deeper.ensures (λ hs p. sym (c.fits.ensures c.args.source.text.now hs p any_list (λ x b q. q.1)) ∙ c.if-not-fits.false) c.element_seat-seat.result.hint (λ hs p. (c.element_seat-seat.ensures.seats 0 0 hs p).hint) c.dispatch.new.rows _ c.in_err-cursor.ensures)
 
--- src/complex.rt:321:8
 pub visit_list-close-requires : goal.visit_list-close-requires
 visit_list-close-requires t c =
     let z = item_ready (read_by c.args.source) c.args.at c.args.task c.args.from c.args.rows.now c.requires.reads c.is_element.result c.is_element.ensures c.if-is_element.false c.raise-levels.result c.raise-levels.ensures c.raise-deeper.result c.raise-deeper.ensures _ c.requires.ready in
@@ -128,49 +112,41 @@ visit_list-close-requires t c =
     let w = c.in_ok-cursor.ensures r.top r.below r.after r.lies _ (c.element_seat-seat.ensures.seats 0 0 hs p).hint in
     (omega (arith, w.ends), omega (arith, c.requires.ready.fits))
 
--- src/complex.rt:291:1
 pub visit_list-returns : goal.visit_list-returns
 visit_list-returns t c =
-    item_done (read_by c.args.source) c.args.at c.args.task c.args.from c.args.rows.now c.requires.reads c.is_element.result c.is_element.ensures c.if-is_element.false c.raise-levels.result c.raise-levels.ensures c.raise-deeper.result c.raise-deeper.ensures (λ hs p. sym (c.fits_list.ensures c.args.source.text.now hs p) ∙ c.if-not-fits_list.false) c.element_seat-seat.result.hint (λ hs p. (c.element_seat-seat.ensures.seats 0 0 hs p).hint)
+    item_done (read_by c.args.source) c.args.at c.args.task c.args.from c.args.rows.now c.requires.reads c.is_element.result c.is_element.ensures c.if-is_element.false c.raise-levels.result c.raise-levels.ensures c.raise-deeper.result c.raise-deeper.ensures (λ hs p. sym (c.fits.ensures c.args.source.text.now hs p any_list (λ x b q. q.1)) ∙ c.if-not-fits.false) c.element_seat-seat.result.hint (λ hs p. (c.element_seat-seat.ensures.seats 0 0 hs p).hint)
     c.dispatch.new.rows c.close.new.rows c.in_ok-cursor.cursor c.close.result c.in_ok-cursor.ensures (omega arith) c.middle_row-row.result c.middle_row-row.ensures c.close.ensures.wrote
 
--- src/complex.rt:332:5
 pub visit_map-returns-in_err-check_map : goal.visit_map-returns-in_err-check_map
 visit_map-returns-in_err-check_map t c =
     let p = err_from_is_err_and c.from_residual.result c.from_residual.ensures.1 in
     rw (p.1, p.2) (map_refused (read_by c.args.source) c.args.at c.args.task c.args.from c.args.rows.now c.requires.reads _ c.in_err-check_map.ensures c.args.rows.now)
 
--- src/complex.rt:334:19
 pub visit_map-bounds-source-at-2 : goal.visit_map-bounds-source-at-2
 visit_map-bounds-source-at-2 t c =
     (places_in (read_by c.args.source) c.args.at c.args.task c.args.from c.args.rows.now c.requires.reads c.requires.ready.root).0
 
--- src/complex.rt:348:18
 pub visit_map-dispatch-requires : goal.visit_map-dispatch-requires
 visit_map-dispatch-requires t c =
     let z = key_ready (read_by c.args.source) c.args.at c.args.task c.args.from c.args.rows.now c.requires.reads c.first_hint-parent.result c.first_hint-given.result c.first_hint-parent.ensures c.first_hint-given.ensures c.raise.result c.raise.ensures c.raise-levels.result c.raise-levels.ensures _ c.requires.ready in
     let (hs, p) = c.requires.hinted in
     (omega (arith, c.decreases, z.0), (z.1, (c.requires.hints, (_, key_handed (read_by c.args.source) c.args.at c.args.task c.args.from c.args.rows.now c.requires.reads c.first_hint-parent.result c.first_hint-given.result c.first_hint-parent.ensures c.first_hint-given.ensures c.raise.result c.raise.ensures c.raise-levels.result c.raise-levels.ensures hs p))))
 
--- src/complex.rt:348:18
 pub visit_map-returns-in_err-middle : goal.visit_map-returns-in_err-middle
 visit_map-returns-in_err-middle t c =
     let p = err_from_is_err_and c.from_residual-in_err-middle.result c.from_residual-in_err-middle.ensures.1 in
     rw (p.1, p.2)
     (key_off (read_by c.args.source) c.args.at c.args.task c.args.from c.args.rows.now c.requires.reads c.first_hint-parent.result c.first_hint-given.result c.first_hint-parent.ensures c.first_hint-given.ensures c.raise.result c.raise.ensures c.raise-levels.result c.raise-levels.ensures c.in_ok-check_map.ensures c.dispatch.new.rows _ c.in_err-middle.ensures)
 
--- src/complex.rt:355:44
 pub visit_map-bounds-source-at-3 : goal.visit_map-bounds-source-at-3
 visit_map-bounds-source-at-3 t c =
     (places_in (read_by c.args.source) c.args.at c.args.task c.args.from c.args.rows.now c.requires.reads c.requires.ready.root).1
 
--- src/complex.rt:355:35
 pub visit_map-overflow_add-at-4 : goal.visit_map-overflow_add-at-4
 visit_map-overflow_add-at-4 t c =
     let z = places_in (read_by c.args.source) c.args.at c.args.task c.args.from c.args.rows.now c.requires.reads c.requires.ready.root in
     grind (arith, z.2, c.requires.ready.root.inside, c.requires.ready.root.sized)
 
--- src/complex.rt:355:18
 pub visit_map-dispatch-requires-2 : goal.visit_map-dispatch-requires-2
 visit_map-dispatch-requires-2 t c =
     let (hs, p) = c.requires.hinted in
@@ -190,7 +166,6 @@ visit_map-dispatch-requires-2 t c =
       ),
     )
 
--- src/complex.rt:355:18
 pub visit_map-returns-in_err-cursor : goal.visit_map-returns-in_err-cursor
 visit_map-returns-in_err-cursor t c =
     let p = err_from_is_err_and c.from_residual-in_err-cursor.result c.from_residual-in_err-cursor.ensures.1 in
@@ -198,7 +173,6 @@ visit_map-returns-in_err-cursor t c =
     (value_off (read_by c.args.source) c.args.at c.args.task c.args.from c.args.rows.now c.requires.reads c.first_hint-parent.result c.first_hint-given.result c.first_hint-parent.ensures c.first_hint-given.ensures c.raise.result c.raise.ensures c.raise-levels.result c.raise-levels.ensures
     c.next_hint.result c.next_hint.ensures c.dispatch.new.rows c.in_ok-middle.middle c.in_ok-middle.ensures c.in_ok-check_map.ensures c.dispatch-2.new.rows _ c.in_err-cursor.ensures)
 
--- src/complex.rt:357:9
 pub visit_map-returns-then-middle-from : goal.visit_map-returns-then-middle-from
 visit_map-returns-then-middle-from t c =
     let z : (c.in_ok-middle.middle.row ≡ c.args.from.row + 1) ⊎ (c.in_ok-cursor.cursor.row ≡ c.in_ok-middle.middle.row) =
@@ -210,7 +184,6 @@ visit_map-returns-then-middle-from t c =
     c.next_hint.result c.next_hint.ensures c.dispatch.new.rows c.in_ok-middle.middle c.in_ok-middle.ensures c.in_ok-check_map.ensures
     c.dispatch-2.new.rows c.in_ok-cursor.cursor c.in_ok-cursor.ensures (omega (arith, c.requires.ready.fits)) z
 
--- src/complex.rt:363:8
 pub visit_map-close-requires : goal.visit_map-close-requires
 visit_map-close-requires t c =
     let (hs, p) = c.requires.hinted in
@@ -218,7 +191,6 @@ visit_map-close-requires t c =
     c.next_hint.result c.next_hint.ensures c.dispatch.new.rows c.in_ok-middle.middle c.in_ok-middle.ensures c.dispatch-2.new.rows c.in_ok-cursor.cursor c.in_ok-cursor.ensures c.requires.ready.root hs p in
     (omega (arith, z.0, z.1), omega (arith, c.requires.ready.fits))
 
--- src/complex.rt:325:1
 pub visit_map-returns : goal.visit_map-returns
 visit_map-returns t c =
     taken (read_by c.args.source) c.args.at c.args.task c.args.from c.args.rows.now c.requires.reads c.first_hint-parent.result c.first_hint-given.result c.first_hint-parent.ensures c.first_hint-given.ensures c.raise.result c.raise.ensures c.raise-levels.result c.raise-levels.ensures
@@ -226,24 +198,20 @@ visit_map-returns t c =
     c.dispatch-2.new.rows c.in_ok-cursor.cursor c.in_ok-cursor.ensures c.if-middle-from.false c.if-cursor-middle.false
     c.close.new.rows c.close.result (omega arith) c.map_row-row.result c.map_row-row.ensures c.close.ensures.wrote
 
--- src/complex.rt:224:1
 pub visit_own-returns-in-Leaf : goal.visit_own-returns-in-Leaf
 visit_own-returns-in-Leaf t c =
     own_leaf (read_by c.args.source) c.args.at c.args.seat c.args.from c.args.rows.now c.visit_primitive.new.rows c.visit_primitive.result c.in-Leaf.leaf c.in-Leaf.is c.visit_primitive.ensures
 
--- src/complex.rt:247:16
 pub visit_struct-returns-in_err-hint : goal.visit_struct-returns-in_err-hint
 visit_struct-returns-in_err-hint t c =
     let p = err_from_is_err_and c.from_residual.result c.from_residual.ensures.1 in
     rw (p.1, p.2) (struct_misfit (read_by c.args.source) c.args.at c.args.seat c.args.from c.args.rows.now c.args.rows.now c.requires.kind.0 c.requires.kind.1 c.is_wrapped-wrapped.result c.is_wrapped-wrapped.ensures _ c.in_err-hint.ensures)
 
--- src/complex.rt:248:5
 pub visit_struct-returns-in_err-check_struct : goal.visit_struct-returns-in_err-check_struct
 visit_struct-returns-in_err-check_struct t c =
     let p = err_from_is_err_and c.from_residual-in_err-check_struct.result c.from_residual-in_err-check_struct.ensures.1 in
     rw (p.1, p.2) (struct_other (read_by c.args.source) c.args.at c.args.seat c.args.from c.args.rows.now c.args.rows.now c.requires.kind.0 c.requires.kind.1 c.is_wrapped-wrapped.result c.is_wrapped-wrapped.ensures c.in_ok-hint.hint c.in_ok-hint.ensures _ c.in_err-check_struct.ensures)
 
--- src/complex.rt:254:18
 pub visit_struct-visit_fields-requires : goal.visit_struct-visit_fields-requires
 visit_struct-visit_fields-requires t c = (
   omega (arith, c.decreases),
@@ -253,20 +221,17 @@ visit_struct-visit_fields-requires t c = (
   ),
 )
 
--- src/complex.rt:254:18
 pub visit_struct-returns-in_err-cursor : goal.visit_struct-returns-in_err-cursor
 visit_struct-returns-in_err-cursor t c =
     let p = err_from_is_err_and c.from_residual-in_err-cursor.result c.from_residual-in_err-cursor.ensures.1 in
     rw (p.1, p.2) (struct_broken (read_by c.args.source) c.args.at c.args.seat c.args.from c.args.rows.now c.visit_fields.new.rows c.requires.kind.0 c.requires.kind.1 c.is_wrapped-wrapped.result c.is_wrapped-wrapped.ensures c.in_ok-hint.hint c.in_ok-hint.ensures c.in_ok-check_struct.ensures c.raise-levels.result c.raise-levels.ensures c.head_of.result c.head_of.ensures _ c.in_err-cursor.ensures)
 
--- src/complex.rt:255:8
 pub visit_struct-close_struct-requires : goal.visit_struct-close_struct-requires
 visit_struct-close_struct-requires t c =
     let p = within_past (read_by c.args.source) c.args.at c.args.seat c.args.from (length c.args.rows.now) c.requires.ready c.in_ok-hint.hint (within_hinted (read_by c.args.source) c.args.at c.args.seat c.args.from c.args.rows.now c.args.rows.now c.requires.kind.0 c.requires.kind.1 c.is_wrapped-wrapped.result c.is_wrapped-wrapped.ensures c.in_ok-hint.hint c.in_ok-hint.ensures c.requires.hinted)
     c.raise-levels.result (record { row = c.head_of.result + 1; leaf = c.args.from.leaf }) c.in_ok-cursor.cursor c.args.rows.now c.visit_fields.new.rows c.in_ok-cursor.ensures in
     record { room = omega (arith, c.requires.ready.fits, c.visit_fields.auto.rows); past = omega (arith, p, c.head_of.ensures) }
 
--- src/complex.rt:238:1
 pub visit_struct-returns : goal.visit_struct-returns
 visit_struct-returns t c =
     struct_done (read_by c.args.source) c.args.at c.args.seat c.args.from c.args.rows.now c.close_struct.new.rows c.requires.kind.0 c.requires.kind.1 c.is_wrapped-wrapped.result c.is_wrapped-wrapped.ensures c.in_ok-hint.hint c.in_ok-hint.ensures c.in_ok-check_struct.ensures c.raise-levels.result c.raise-levels.ensures c.head_of.result c.head_of.ensures c.visit_fields.new.rows c.in_ok-cursor.cursor c.close_struct.result (omega arith)

@@ -1,9 +1,17 @@
-use Rattle.std.proofs.Common.{◌∙◌}
+use Rattle.std.proofs.Common.{◌≡◌, ◌∙◌}
+use Rattle.tree.specs.Forest.{Forest}
+use Rattle.tree.specs.Forest.Forest.{plant}
+use Rattle.schema.specs.declared.element.Element.{Element}
 use Rattle.schema.specs.Elements.{element_span}
+use Rattle.walk.specs.Forests.{trees}
+use Rattle.convert.specs.Table.{Stands}
 use Rattle.convert.proofs.Trees.{children_trees}
+use Rattle.convert.proofs.Roles.{child_in, pair_in}
 use Rattle.convert.proofs.reading.count_children.Goals as goal
 
 pub returns : goal.returns
-returns c = λ e b n q.
-    c.count_children.ensures.counts c.requires.whole (rw c.new.ensures.rows c.requires.lists)
-    ∙ children_trees element_span c.args.elements.now c.args.at c.requires.whole c.requires.lists e b n q
+returns c =
+    let t = c.args.elements.now in
+    let told : (e : Element) (b n : Forest Element) → Stands t c.args.at (plant e b n) → c.count_children.result ≡ trees b =
+    (λ e b n q. c.count_children.ensures.counts c.requires.whole (rw c.new.ensures.rows c.requires.lists) ∙ children_trees element_span t c.args.at c.requires.whole c.requires.lists e b n q) in
+    record { child = child_in t c.args.at c.requires c.count_children.result told; pair = pair_in t c.args.at c.requires c.count_children.result told; trees = told }

@@ -25,7 +25,7 @@ bounds-elements-child-in-Group c =
     let r = c.requires.root in
     let s = listed_shape [] c.args.at 0 r.top r.below (c.requires.reads r.top r.below r.after r.lies [] 0) in
     let l = child_stands r.top r.below r.after r.lies s in
-    let one = c.count_children.ensures s.child s.under bare l in
+    let one = c.count_children.ensures.trees s.child s.under bare l in
     let some = some_child s.under (λ h. omega (arith, one, h, c.if-count_children-ne1.false)) in
     omega (arith, some, inside element_span _ _ s.child s.under bare l)
 
@@ -36,13 +36,13 @@ returns-in-Leaf c = λ e b n q k.
 pub returns-then-count_children-ne1 : goal.returns-then-count_children-ne1
 returns-then-count_children-ne1 c = λ e b n q k.
     let s = listed_shape [] c.args.at 0 e b (c.requires.reads e b n q [] 0) in
-    let o = c.count_children.ensures s.child s.under bare (child_stands e b n q s) in
+    let o = c.count_children.ensures.trees s.child s.under bare (child_stands e b n q s) in
     takes_several e b n q s c.args.names.now k c.in-Group.annotation c.in-Group.is (λ h. c.if-count_children-ne1.true (o ∙ h))
 
 pub returns-else-count_children-ne1 : goal.returns-else-count_children-ne1
 returns-else-count_children-ne1 c = λ e b n q k.
     let s = listed_shape [] c.args.at 0 e b (c.requires.reads e b n q [] 0) in
-    let o = c.count_children.ensures s.child s.under bare (child_stands e b n q s) in
+    let o = c.count_children.ensures.trees s.child s.under bare (child_stands e b n q s) in
     takes_one e b n q s c.args.names.now k c.in-Group.annotation c.in-Group.is (sym o ∙ c.if-count_children-ne1.false)
     ∙ sym (c.one_child.ensures
     ∙ ap₂ (λ (x y : Bool). one_child c.in-Group.annotation x y) c.is_repeated-again.ensures (c.names_element.ensures ∙ ap₂ names_element c.bytes_in-group.ensures.bytes c.bytes_in-name.ensures.bytes))

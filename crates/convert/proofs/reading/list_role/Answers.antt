@@ -1,35 +1,28 @@
-use Rattle.std.proofs.Common.{Bool, sym, ap, ◌∙◌, ap₂, arith}
+use Rattle.std.proofs.Common.{Bool, sym, ap, ◌∙◌, ap₂}
 use Rattle.schema.specs.Elements.{element_span}
 use Rattle.walk.specs.Labels.{or_required}
 use Rattle.walk.specs.Reading.{list_child}
 use Rattle.convert.proofs.Trees.{below, read_here}
-use Rattle.convert.proofs.Roles.{again, list_several, list_one, some_child}
+use Rattle.convert.proofs.Roles.{again, list_several, list_one}
 use Rattle.convert.proofs.reading.list_role.Goals as goal
 
 pub returns-then-count_children-ne1 : goal.returns-then-count_children-ne1
 returns-then-count_children-ne1 c = λ e b n q text k.
     list_several c.args.elements.now c.args.at text k (or_required e.repetition) b
-    (λ h. c.if-count_children-ne1.true (c.count_children.ensures e b n q ∙ h))
-
-pub bounds-elements-at : goal.bounds-elements-at
-bounds-elements-at c =
-    let r = c.requires in
-    let one = c.count_children.ensures r.top r.below r.after r.lies in
-    let some = some_child r.below (λ h. omega (arith, one, h, c.if-count_children-ne1.false)) in
-    omega (arith, some, r.inside)
+    (λ h. c.if-count_children-ne1.true (c.count_children.ensures.trees e b n q ∙ h))
 
 pub returns-then-not-is_repeated : goal.returns-then-not-is_repeated
 returns-then-not-is_repeated c = λ e b n q text k.
     let t = c.args.elements.now in
     let i = c.args.at in
-    list_one t i text k (or_required e.repetition) b (sym (c.count_children.ensures e b n q) ∙ c.if-count_children-ne1.false) (below element_span t i e b n q)
+    list_one t i text k (or_required e.repetition) b (sym (c.count_children.ensures.trees e b n q) ∙ c.if-count_children-ne1.false) (below element_span t i e b n q)
     ∙ ap (λ (x : Bool). list_child i x (again e)) (sym c.is_repeated.ensures ∙ c.if-not-is_repeated.true)
 
 pub returns-then-is_repeated : goal.returns-then-is_repeated
 returns-then-is_repeated c = λ e b n q text k.
     let t = c.args.elements.now in
     let i = c.args.at in
-    list_one t i text k (or_required e.repetition) b (sym (c.count_children.ensures e b n q) ∙ c.if-count_children-ne1.false) (below element_span t i e b n q)
+    list_one t i text k (or_required e.repetition) b (sym (c.count_children.ensures.trees e b n q) ∙ c.if-count_children-ne1.false) (below element_span t i e b n q)
     ∙ ap₂ (λ (x y : Bool). list_child i x y) (sym c.is_repeated.ensures ∙ c.if-not-is_repeated.false)
     (ap again (sym (read_here t i e b n q)) ∙ sym c.is_repeated-2.ensures ∙ c.if-is_repeated.true)
 
@@ -37,6 +30,6 @@ pub returns : goal.returns
 returns c = λ e b n q text k.
     let t = c.args.elements.now in
     let i = c.args.at in
-    list_one t i text k (or_required e.repetition) b (sym (c.count_children.ensures e b n q) ∙ c.if-count_children-ne1.false) (below element_span t i e b n q)
+    list_one t i text k (or_required e.repetition) b (sym (c.count_children.ensures.trees e b n q) ∙ c.if-count_children-ne1.false) (below element_span t i e b n q)
     ∙ ap₂ (λ (x y : Bool). list_child i x y) (sym c.is_repeated.ensures ∙ c.if-not-is_repeated.false)
     (ap again (sym (read_here t i e b n q)) ∙ sym c.is_repeated-2.ensures ∙ c.if-is_repeated.false)

@@ -4,47 +4,28 @@ use Rattle.schema.specs.Elements.{element_span}
 use Rattle.walk.specs.Labels.{is_leaf, or_required}
 use Rattle.convert.specs.Table.{element_at}
 use Rattle.convert.proofs.Trees.{below, read_here, first_rooted}
-use Rattle.convert.proofs.Roles.{again, map_again, map_several, map_other, map_one, some_child}
+use Rattle.convert.proofs.Roles.{again, map_several, map_other, map_one, some_child}
 use Rattle.convert.proofs.reading.map_role.Goals as goal
-
-pub returns-then-is_repeated : goal.returns-then-is_repeated
-returns-then-is_repeated c = λ e b n q text k.
-    let t = c.args.elements.now in
-    map_again t c.args.at text k (or_required e.repetition) (ap again (sym (read_here t c.args.at e b n q)) ∙ sym c.is_repeated.ensures ∙ c.if-is_repeated.true) b
 
 pub returns-then-count_children-ne1 : goal.returns-then-count_children-ne1
 returns-then-count_children-ne1 c = λ e b n q text k.
     let t = c.args.elements.now in
     map_several t c.args.at text k (or_required e.repetition) (ap again (sym (read_here t c.args.at e b n q)) ∙ sym c.is_repeated.ensures ∙ c.if-is_repeated.false) b
-    (λ h. c.if-count_children-ne1.true (c.count_children.ensures e b n q ∙ h))
-
-pub bounds-elements-child : goal.bounds-elements-child
-bounds-elements-child c =
-    let r = c.requires in
-    let one = c.count_children.ensures r.top r.below r.after r.lies in
-    let some = some_child r.below (λ h. omega (arith, one, h, c.if-count_children-ne1.false)) in
-    omega (arith, some, r.inside)
+    (λ h. c.if-count_children-ne1.true (c.count_children.ensures.trees e b n q ∙ h))
 
 pub returns-then-not-is_repeated : goal.returns-then-not-is_repeated
 returns-then-not-is_repeated c = λ e b n q text k.
     let t = c.args.elements.now in
     let i = c.args.at in
     map_other t i text k (or_required e.repetition) (ap again (sym (read_here t i e b n q)) ∙ sym c.is_repeated.ensures ∙ c.if-is_repeated.false) b
-    (sym (c.count_children.ensures e b n q) ∙ c.if-count_children-ne1.false) (below element_span t i e b n q)
+    (sym (c.count_children.ensures.trees e b n q) ∙ c.if-count_children-ne1.false) (below element_span t i e b n q)
     (ap (λ (x : Bool). x && not (is_leaf (element_at t (i + 1)).kind)) (sym c.is_repeated-2.ensures ∙ c.if-not-is_repeated.true))
-
-pub bounds : goal.bounds
-bounds c =
-    let r = c.requires in
-    let one = c.count_children.ensures r.top r.below r.after r.lies in
-    let some = some_child r.below (λ h. omega (arith, one, h, c.if-count_children-ne1.false)) in
-    omega (arith, some, r.inside)
 
 pub entries_role-requires : goal.entries_role-requires
 entries_role-requires c =
     let r = c.requires in
     let t = c.args.elements.now in
-    let one = c.count_children.ensures r.top r.below r.after r.lies in
+    let one = c.count_children.ensures.trees r.top r.below r.after r.lies in
     first_rooted t (c.args.at + 1) r.whole r.lists r.below (below element_span t c.args.at r.top r.below r.after r.lies)
     (some_child r.below (λ h. omega (arith, one, h, c.if-count_children-ne1.false)))
 
@@ -53,7 +34,7 @@ returns-in-Leaf c = λ e b n q text k.
     let t = c.args.elements.now in
     let i = c.args.at in
     map_other t i text k (or_required e.repetition) (ap again (sym (read_here t i e b n q)) ∙ sym c.is_repeated.ensures ∙ c.if-is_repeated.false) b
-    (sym (c.count_children.ensures e b n q) ∙ c.if-count_children-ne1.false) (below element_span t i e b n q)
+    (sym (c.count_children.ensures.trees e b n q) ∙ c.if-count_children-ne1.false) (below element_span t i e b n q)
     (ap₂ (λ (x : Bool) (y : Kind). x && not (is_leaf y)) (sym c.is_repeated-2.ensures ∙ c.if-not-is_repeated.false) c.in-Leaf.is)
 
 pub returns-in-Group : goal.returns-in-Group
@@ -61,6 +42,6 @@ returns-in-Group c = λ e b n q text k.
     let t = c.args.elements.now in
     let i = c.args.at in
     map_one t i text k (or_required e.repetition) (ap again (sym (read_here t i e b n q)) ∙ sym c.is_repeated.ensures ∙ c.if-is_repeated.false) b
-    (sym (c.count_children.ensures e b n q) ∙ c.if-count_children-ne1.false) (below element_span t i e b n q)
+    (sym (c.count_children.ensures.trees e b n q) ∙ c.if-count_children-ne1.false) (below element_span t i e b n q)
     (ap₂ (λ (x : Bool) (y : Kind). x && not (is_leaf y)) (sym c.is_repeated-2.ensures ∙ c.if-not-is_repeated.false) c.in-Group.is)
     c.entries_role.result c.entries_role.ensures

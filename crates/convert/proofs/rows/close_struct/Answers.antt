@@ -1,26 +1,12 @@
 use Rattle.std.proofs.Common.{sym, ◌∙◌, arith}
-use Rattle.walk.specs.Labels.{is_repeated, or_required}
-use Rattle.convert.proofs.Leaves.{struct_alone, struct_listed, at_again, at_once}
+use Rattle.convert.proofs.Leaves.{struct_alone, struct_listed}
 use Rattle.convert.proofs.rows.close_struct.Goals as goal
-
-pub close-inner-requires : goal.close-inner-requires
-close-inner-requires c =
-    let e = at_again c.args.start (is_repeated (or_required c.args.element.repetition)) (sym c.is_repeated.ensures ∙ c.if-is_repeated.true) in
-    (omega (arith, c.requires.past, e), c.requires.room)
-
-pub close-requires : goal.close-requires
-close-requires c = (c.close-inner.ensures.low, omega (arith, c.requires.room))
 
 pub returns-then-is_repeated : goal.returns-then-is_repeated
 returns-then-is_repeated c = λ bytes names hs p o next before l w.
     struct_listed names c.args.seat hs c.args.element c.args.levels c.own_row-row.result (c.own_row-row.ensures bytes hs p) c.args.start o next before c.args.rows.now
     c.close-inner.new.rows c.close.new.rows c.args.cursor c.close-inner.result c.close.result (sym c.is_repeated.ensures ∙ c.if-is_repeated.true)
     c.list_row.result c.list_row.ensures l (omega arith) c.close-inner.ensures.wrote c.close.ensures.wrote w
-
-pub close-requires-2 : goal.close-requires-2
-close-requires-2 c =
-    let e = at_once c.args.start (is_repeated (or_required c.args.element.repetition)) (sym c.is_repeated.ensures ∙ c.if-is_repeated.false) in
-    (omega (arith, c.requires.past, e), omega (arith, c.requires.room))
 
 pub returns : goal.returns
 returns c = λ bytes names hs p o next before l w.

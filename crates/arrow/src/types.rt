@@ -23,14 +23,14 @@ pub struct TextPlace {
 }
 
 // A timestamp's zone. A hint's is absent or a place of the hint text.
-#[derive(Clone, Copy)]
+#[derive(Clone, Copy, PartialEq, Eq, Debug)]
 pub enum Zone {
     Absent,
     Utc,
     Text(TextPlace),
 }
 
-#[derive(Clone, Copy)]
+#[derive(Clone, Copy, PartialEq, Eq, Debug)]
 pub enum ArrowType {
     Null,
     Boolean,

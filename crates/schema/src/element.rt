@@ -6,7 +6,7 @@ use crate::basic::{Annotation, ConvertedType, LogicalType, PhysicalType, Repetit
 use tree::Row;
 
 // Where bytes lie in a caller's memory.
-#[derive(Clone, Copy)]
+#[derive(Clone, Copy, PartialEq, Eq, Debug)]
 pub struct Place {
     pub start: usize,
     pub length: u8,

@@ -1,23 +1,20 @@
 // The words of a line, and what each kind of word stands for.
-ghost use Rattle.std.specs.Prelude.{◌≡◌, ℕ, true, List, [], ◌∷◌, ◌++◌, is_some, None, codes, MatchOption};
+ghost use Rattle.std.specs.Prelude.{◌≡◌, ℕ, List, [], ◌∷◌, ◌++◌, is_none, None, codes, MatchOption};
 ghost use Rattle.std.specs.Int.{w8, w32};
 ghost use Rattle.std.specs.Option.{option_map, unwrap_or};
-ghost use Rattle.script.specs.Cuts.{Lacks, Next, Parts};
+ghost use Rattle.std.specs.Iterator.{at_most};
+ghost use Rattle.script.specs.Cuts.{Lacks, Next, Parts, most_words};
 ghost use Rattle.script.specs.Spelling.{NumberSpelled, OptionalSpelled, repetition_word, annotation_word, physical_word, converted_word, unit_word, sign_word, clock_word, PayloadSpelled, SpelledInParts, LogicalSpelled};
 
 use schema::{Annotation, ConvertedType, LogicalType, PhysicalType, Repetition, TimeUnit};
-use std::str::from_utf8;
+use std::str::{FromStr, from_utf8};
 
 // What stands before the first such byte and what stands after it, if there is one.
 pub fn cut(text: &[u8], byte: u8) -> Option<(&[u8], &[u8])>
     ensures cases { MatchOption result (Lacks byte text.now) (λ p. Lacks byte p.0.now × (text.now ≡ p.0.now ++ (byte ∷ p.1.now))) }
 {
-    for (i, b) in text.iter().enumerate() {
-        if *b == byte {
-            return Some((&text[0..i], &text[i + 1..text.len()]));
-        }
-    }
-    None
+    let at = text.iter().position(|b| *b == byte)?;
+    Some((&text[..at], &text[at + 1..]))
 }
 
 // A line that is read word by word. One space stands between two words.
@@ -32,35 +29,15 @@ impl<'a> Words<'a> {
         Words { rest: Some(line) }
     }
 
-    // The next word, as bytes.
-    fn next(&mut self) -> Option<&'a [u8]>
-        ensures next { MatchOption result (self.old.rest ≡ None) (λ w. Next (option_map (λ x. x.now) self.old.rest) w.now (option_map (λ x. x.now) self.new.rest)) }
-    {
-        let text = self.rest?;
-        match cut(text, b' ') {
-            Some((word, rest)) => {
-                self.rest = Some(rest);
-                Some(word)
-            }
-            None => {
-                self.rest = None;
-                Some(text)
-            }
-        }
-    }
-
     // The next word, if it is text.
     pub fn word(&mut self) -> Option<&'a str> {
         from_utf8(self.next()?).ok()
     }
 
-    // The next word, if it is a number.
-    pub fn number(&mut self) -> Option<usize> {
-        self.word()?.parse::<usize>().ok()
-    }
-
     // Whether the last word has been read.
-    pub fn is_done(&self) -> bool {
+    pub fn is_done(&self) -> bool
+        ensures done { result ≡ is_none self.now.rest }
+    {
         self.rest.is_none()
     }
 
@@ -73,21 +50,38 @@ impl<'a> Words<'a> {
     pub fn name(self) -> &'a [u8]
         ensures name { result.now ≡ unwrap_or (option_map (λ x. x.now) self.entry.rest) [] }
     {
-        match self.rest {
-            Some(name) => name,
-            None => &[],
-        }
+        self.rest.unwrap_or(&[])
     }
+}
 
-    // Nothing, if no word is left.
-    pub fn end(self) -> Option<()>
-        ensures end { MatchOption result (is_some self.entry.rest ≡ true) (λ _. self.entry.rest ≡ None) }
-    {
-        match self.rest {
-            Some(_) => None,
-            None => Some(()),
+impl<'a> Iterator for Words<'a> {
+    type Item = &'a [u8];
+
+    ghost next_gives = { λ s r t. MatchOption r (s.rest ≡ None) (λ w. Next (option_map (λ x. x.now) s.rest) w.now (option_map (λ x. x.now) t.rest)) };
+
+    ghost remaining = { λ s. at_most (most_words (option_map (λ x. x.now) s.rest)) };
+
+    fn next(&mut self) -> Option<&'a [u8]> {
+        let text = self.rest?;
+        match cut(text, b' ') {
+            Some((word, rest)) => {
+                self.rest = Some(rest);
+                Some(word)
+            }
+            None => {
+                self.rest = None;
+                Some(text)
+            }
         }
     }
+}
+
+// The number that a word spells, if it spells one.
+pub fn number<T: FromStr>(word: &[u8]) -> Option<T>
+where
+    T::Err: Drop,
+{
+    from_utf8(word).ok()?.parse::<T>().ok()
 }
 
 // What one word can stand for.

@@ -1,10 +1,10 @@
 // The words of a line, and what each kind of word stands for.
-ghost use Rattle.std.specs.Prelude.{◌≡◌, ℕ, List, [], ◌∷◌, ◌++◌, is_none, None, codes, MatchOption};
+ghost use Rattle.std.specs.Prelude.{◌≡◌, ℕ, List, [], ◌∷◌, ◌++◌, is_none, None, Ok, Err, IsUtf8, codes, MatchOption};
 ghost use Rattle.std.specs.Int.{w8, w32};
 ghost use Rattle.std.specs.Option.{option_map, unwrap_or};
 ghost use Rattle.std.specs.Iterator.{at_most};
 ghost use Rattle.script.specs.Cuts.{Lacks, Next, Parts, most_words};
-ghost use Rattle.script.specs.Spelling.{NumberSpelled, OptionalSpelled, repetition_word, annotation_word, physical_word, converted_word, unit_word, sign_word, clock_word, PayloadSpelled, SpelledInParts, LogicalSpelled};
+ghost use Rattle.script.specs.Spelling.{NumberSpelled, OptionalSpelled, repetition_word, annotation_word, physical_word, converted_word, unit_word, sign_word, clock_word, PayloadSpelled, SpelledInParts, LogicalSpelled, Read};
 
 use schema::{Annotation, ConvertedType, LogicalType, PhysicalType, Repetition, TimeUnit};
 use std::str::{FromStr, from_utf8};
@@ -80,6 +80,7 @@ impl<'a> Iterator for Words<'a> {
 pub fn number<T: FromStr>(word: &[u8]) -> Option<T>
 where
     T::Err: Drop,
+    ensures spelled { MatchOption result (IsUtf8 word.now → (e : T.Err) × T.from_str_gives word.now (Err e)) (λ n. IsUtf8 word.now × T.from_str_gives word.now (Ok n)) }
 {
     from_utf8(word).ok()?.parse::<T>().ok()
 }
@@ -92,7 +93,7 @@ pub trait FromWord {
     fn from_word(word: &str) -> Option<Self>
     where
         Self: Sized,
-        ensures read { MatchOption result ((x : Self) → spells word.now x → ⊥) (λ x. spells word.now x) };
+        ensures read { Read (spells word.now) result };
 }
 
 // `-` stands for what is absent.
@@ -107,6 +108,8 @@ impl<T: FromWord> FromWord for Option<T> {
     }
 }
 
+// i8 and i32 differ in their width alone. An impl for both at once would need a trait that names the width, which is longer
+// than the second impl.
 impl FromWord for i8 {
     ghost spells = { λ w x. NumberSpelled w8 w x };
 
@@ -270,15 +273,17 @@ fn both<A: FromWord + Drop, B: FromWord>(first: &str, second: &str) -> Option<(A
     Some((a, b))
 }
 
+#[tactic(auto, using(crate::proofs::Payloads::no_decimal))]
 fn decimal(first: &str, second: &str) -> Option<LogicalType>
-    ensures read { MatchOption result ((x : LogicalType) → PayloadSpelled (codes "decimal") first.now second.now x → ⊥) (λ x. PayloadSpelled (codes "decimal") first.now second.now x) }
+    ensures read { Read (PayloadSpelled (codes "decimal") first.now second.now) result }
 {
     let (scale, precision) = both::<i32, i32>(first, second)?;
     Some(LogicalType::Decimal { scale, precision })
 }
 
+#[tactic(auto, using(crate::proofs::Payloads::no_integer))]
 fn integer(first: &str, second: &str) -> Option<LogicalType>
-    ensures read { MatchOption result ((x : LogicalType) → PayloadSpelled (codes "integer") first.now second.now x → ⊥) (λ x. PayloadSpelled (codes "integer") first.now second.now x) }
+    ensures read { Read (PayloadSpelled (codes "integer") first.now second.now) result }
 {
     let (bit_width, sign) = both::<i8, Sign>(first, second)?;
     Some(LogicalType::Integer {
@@ -287,8 +292,9 @@ fn integer(first: &str, second: &str) -> Option<LogicalType>
     })
 }
 
+#[tactic(auto, using(crate::proofs::Payloads::no_time))]
 fn time(first: &str, second: &str) -> Option<LogicalType>
-    ensures read { MatchOption result ((x : LogicalType) → PayloadSpelled (codes "time") first.now second.now x → ⊥) (λ x. PayloadSpelled (codes "time") first.now second.now x) }
+    ensures read { Read (PayloadSpelled (codes "time") first.now second.now) result }
 {
     let (clock, unit) = both::<Clock, TimeUnit>(first, second)?;
     Some(LogicalType::Time {
@@ -297,8 +303,9 @@ fn time(first: &str, second: &str) -> Option<LogicalType>
     })
 }
 
+#[tactic(auto, using(crate::proofs::Payloads::no_timestamp))]
 fn timestamp(first: &str, second: &str) -> Option<LogicalType>
-    ensures read { MatchOption result ((x : LogicalType) → PayloadSpelled (codes "timestamp") first.now second.now x → ⊥) (λ x. PayloadSpelled (codes "timestamp") first.now second.now x) }
+    ensures read { Read (PayloadSpelled (codes "timestamp") first.now second.now) result }
 {
     let (clock, unit) = both::<Clock, TimeUnit>(first, second)?;
     Some(LogicalType::Timestamp {
@@ -308,7 +315,7 @@ fn timestamp(first: &str, second: &str) -> Option<LogicalType>
 }
 
 fn payload(kind: &str, first: &str, second: &str) -> Option<LogicalType>
-    ensures read { MatchOption result ((x : LogicalType) → PayloadSpelled kind.now first.now second.now x → ⊥) (λ x. PayloadSpelled kind.now first.now second.now x) }
+    ensures read { Read (PayloadSpelled kind.now first.now second.now) result }
 {
     match kind {
         "decimal" => decimal(first, second),
@@ -320,8 +327,9 @@ fn payload(kind: &str, first: &str, second: &str) -> Option<LogicalType>
 }
 
 // A logical type that has numbers or words of its own.
+#[tactic(auto, using(crate::proofs::Payloads::of_parts))]
 fn logical_of_parts(word: &str) -> Option<LogicalType>
-    ensures read { MatchOption result ((x : LogicalType) → SpelledInParts word.now x → ⊥) (λ x. SpelledInParts word.now x) }
+    ensures read { Read (SpelledInParts word.now) result }
 {
     let (kind, first, second) = parts(word)?;
     payload(kind, first, second)

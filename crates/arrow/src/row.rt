@@ -15,7 +15,7 @@ pub enum Metadata {
 }
 
 // The field by which a row's parent knows it.
-#[derive(Clone, Copy)]
+#[derive(Clone, Copy, PartialEq, Eq, Debug)]
 pub struct Field {
     // where the name lies in the name memory
     pub name: Place<u8>,
@@ -31,14 +31,14 @@ pub struct LeafNumbers {
 }
 
 // What a map row adds: its entries' name and metadata number.
-#[derive(Clone, Copy)]
+#[derive(Clone, Copy, PartialEq, Eq, Debug)]
 pub struct Entries {
     pub name: Place<u8>,
     // 0 for none, as in the hint row that gives it
     pub metadata: u32,
 }
 
-#[derive(Clone, Copy)]
+#[derive(Clone, Copy, PartialEq, Eq, Debug)]
 pub struct ResultRow {
     pub rep_level: u16,
     pub def_level: u16,

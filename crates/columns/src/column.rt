@@ -6,7 +6,7 @@ use schema::Place;
 pub type PathPlace = Place<usize>;
 
 // One leaf of a schema.
-#[derive(Clone, Copy)]
+#[derive(Clone, Copy, PartialEq, Eq, Debug)]
 pub struct Column {
     // the leaf's element number
     pub element: usize,

@@ -1,6 +1,7 @@
 // Conversions at the limits of schemas and tables, and what refused ones leave.
 #![tactic(auto)]
 
+use anyhow::Context;
 use arrow::{ArrowType, Field, HintRow, Metadata, ResultRow, TextPlace};
 use convert::{HintSchema, convert};
 use odd_leaves::OddLeaves;
@@ -74,7 +75,9 @@ impl Tables {
                 None,
             )?;
         }
-        self.finish(draft)
+        draft
+            .finish(&mut self.elements, &self.names)
+            .map_err(|(_, refusal)| refusal)
     }
 
     // Groups of one repetition, one in the other, and a leaf of it in the last.
@@ -101,14 +104,9 @@ impl Tables {
         for _ in 0..groups {
             draft.close()?;
         }
-        self.finish(draft)
-    }
-
-    fn finish(&mut self, draft: Draft) -> Result<Schema, Refusal> {
-        match draft.finish(&mut self.elements, &self.names) {
-            Ok(schema) => Ok(schema),
-            Err((_, refusal)) => Err(refusal),
-        }
+        draft
+            .finish(&mut self.elements, &self.names)
+            .map_err(|(_, refusal)| refusal)
     }
 
     fn convert<S: Selection>(
@@ -126,20 +124,6 @@ impl Tables {
             &mut self.rows,
             &mut self.chosen,
         )
-    }
-
-    fn element(&self, at: usize) -> Element {
-        match self.elements.get(at) {
-            Some(element) => *element,
-            None => Element::EMPTY,
-        }
-    }
-
-    // Alters the memory, as a caller could.
-    fn put(&mut self, at: usize, element: Element) {
-        if let Some(place) = self.elements.get_mut(at) {
-            *place = element;
-        }
     }
 
     // Converts all leaves under a hint of one row.
@@ -164,33 +148,8 @@ impl Tables {
 
     // Whether every row is empty and every flag false.
     fn is_clear(&self) -> bool {
-        for row in self.rows.iter() {
-            if !is_empty(row) {
-                return false;
-            }
-        }
-        for flag in self.chosen.iter() {
-            if *flag {
-                return false;
-            }
-        }
-        true
+        self.rows.iter().all(|row| *row == ResultRow::EMPTY) && !self.chosen.contains(&true)
     }
-}
-
-fn is_empty(row: &ResultRow) -> bool {
-    let no_numbers = row.rep_level == 0 && row.def_level == 0 && row.size == 0;
-    let no_name = row.field.name.start == 0 && row.field.name.length == 0;
-    let no_type = matches!(row.data_type, ArrowType::Null);
-    let no_metadata = row.field.metadata.is_none();
-    let no_more = row.leaf.is_none() && row.entries.is_none();
-    no_numbers
-        && no_name
-        && no_type
-        && no_metadata
-        && no_more
-        && !row.nullable
-        && !row.field.nullable
 }
 
 // What came of a conversion: the rows and the last of them, or the refusal and whether the tables are clear.
@@ -203,10 +162,10 @@ fn report(
     match answer {
         Ok(count) => {
             println!(rt; "{what}: {count} rows")?;
-            match tables.rows.iter().take(count).last() {
-                Some(row) => report_row(rt, row),
-                None => Ok(()),
+            if let Some(row) = tables.rows.iter().take(count).last() {
+                report_row(rt, row)?;
             }
+            Ok(())
         }
         Err(refusal) => {
             let clear = tables.is_clear();
@@ -216,59 +175,58 @@ fn report(
 }
 
 fn report_row(rt: &HostRuntime, row: &ResultRow) -> io::Result<()> {
-    match row.leaf {
-        Some(numbers) => println!(rt;
+    if let Some(numbers) = row.leaf {
+        println!(rt;
             "  the last: element {}, leaf {}, levels ({},{})",
             numbers.element, numbers.leaf, row.rep_level, row.def_level
-        ),
-        None => Ok(()),
+        )?;
     }
+    Ok(())
 }
 
 // As many elements as a schema may have, each but the root a repeated leaf: two rows for each.
 fn largest(rt: &HostRuntime, rows: usize, flags: usize) -> anyhow::Result<()> {
     let mut tables = Tables::new(rt.alloc(), rows, flags)?;
-    match tables.draft_leaves(4095, Repetition::Repeated) {
-        Ok(schema) => {
-            let answer = tables.convert(&schema, &All, NO_HINT);
-            println!(rt; "a table of {rows} rows and {flags} flags")?;
-            report(rt, "4096 elements", &tables, answer)?;
-        }
-        Err(_) => println!(rt; "not drafted")?,
-    }
+    let schema = tables
+        .draft_leaves(4095, Repetition::Repeated)
+        .ok()
+        .context("not drafted")?;
+    let answer = tables.convert(&schema, &All, NO_HINT);
+    println!(rt; "a table of {rows} rows and {flags} flags")?;
+    report(rt, "4096 elements", &tables, answer)?;
     Ok(())
 }
 
 // Elements down to the greatest depth.
 fn deepest(rt: &HostRuntime, repetition: Repetition, what: &str) -> anyhow::Result<()> {
     let mut tables = Tables::new(rt.alloc(), 130, 1)?;
-    match tables.draft_chain(63, repetition) {
-        Ok(schema) => {
-            let answer = tables.convert(&schema, &All, NO_HINT);
-            report(rt, what, &tables, answer)?;
-        }
-        Err(_) => println!(rt; "not drafted")?,
-    }
+    let schema = tables
+        .draft_chain(63, repetition)
+        .ok()
+        .context("not drafted")?;
+    let answer = tables.convert(&schema, &All, NO_HINT);
+    report(rt, what, &tables, answer)?;
     Ok(())
 }
 
-// Memory that was altered after the finish.
+// Memory that was altered after the finish, as a caller could.
 fn altered(rt: &HostRuntime) -> anyhow::Result<()> {
     let mut tables = Tables::new(rt.alloc(), 8, 3)?;
-    match tables.draft_leaves(3, Repetition::Optional) {
-        Ok(schema) => {
-            let row = tables.element(2);
-            tables.put(2, Element { depth: 2, ..row });
-            let answer = tables.convert(&schema, &All, NO_HINT);
-            report(rt, "an element one deeper", &tables, answer)?;
-            tables.put(2, Element { size: 2, ..row });
-            let answer = tables.convert(&schema, &All, NO_HINT);
-            report(rt, "an element one longer", &tables, answer)?;
-            tables.put(2, row);
-            let answer = tables.convert(&schema, &All, NO_HINT);
-            report(rt, "the elements as they were", &tables, answer)?;
+    let schema = tables
+        .draft_leaves(3, Repetition::Optional)
+        .ok()
+        .context("not drafted")?;
+    let row = tables.elements.get(2).copied().unwrap_or(Element::EMPTY);
+    for (what, element) in [
+        ("an element one deeper", Element { depth: 2, ..row }),
+        ("an element one longer", Element { size: 2, ..row }),
+        ("the elements as they were", row),
+    ] {
+        if let Some(place) = tables.elements.get_mut(2) {
+            *place = element;
         }
-        Err(_) => println!(rt; "not drafted")?,
+        let answer = tables.convert(&schema, &All, NO_HINT);
+        report(rt, what, &tables, answer)?;
     }
     Ok(())
 }
@@ -276,14 +234,16 @@ fn altered(rt: &HostRuntime) -> anyhow::Result<()> {
 // A hint that is none, and one of another kind than a struct.
 fn hinted(rt: &HostRuntime) -> anyhow::Result<()> {
     let mut tables = Tables::new(rt.alloc(), 8, 3)?;
-    match tables.draft_leaves(3, Repetition::Optional) {
-        Ok(schema) => {
-            let answer = tables.convert_under(&schema, ArrowType::List);
-            report(rt, "a list hint with no child", &tables, answer)?;
-            let answer = tables.convert_under(&schema, ArrowType::Int32);
-            report(rt, "a root hint that is no struct", &tables, answer)?;
-        }
-        Err(_) => println!(rt; "not drafted")?,
+    let schema = tables
+        .draft_leaves(3, Repetition::Optional)
+        .ok()
+        .context("not drafted")?;
+    for (what, data_type) in [
+        ("a list hint with no child", ArrowType::List),
+        ("a root hint that is no struct", ArrowType::Int32),
+    ] {
+        let answer = tables.convert_under(&schema, data_type);
+        report(rt, what, &tables, answer)?;
     }
     Ok(())
 }
@@ -291,17 +251,16 @@ fn hinted(rt: &HostRuntime) -> anyhow::Result<()> {
 // A selection that is written outside the library.
 fn odd(rt: &HostRuntime) -> anyhow::Result<()> {
     let mut tables = Tables::new(rt.alloc(), 22, 12)?;
-    match tables.draft_leaves(10, Repetition::Required) {
-        Ok(schema) => {
-            let answer = tables.convert(&schema, &OddLeaves, NO_HINT);
-            report(rt, "the odd leaves of ten", &tables, answer)?;
-            for (leaf, chosen) in tables.chosen.iter().enumerate() {
-                if *chosen {
-                    println!(rt; "  leaf {leaf} is chosen")?;
-                }
-            }
+    let schema = tables
+        .draft_leaves(10, Repetition::Required)
+        .ok()
+        .context("not drafted")?;
+    let answer = tables.convert(&schema, &OddLeaves, NO_HINT);
+    report(rt, "the odd leaves of ten", &tables, answer)?;
+    for (leaf, chosen) in tables.chosen.iter().enumerate() {
+        if *chosen {
+            println!(rt; "  leaf {leaf} is chosen")?;
         }
-        Err(_) => println!(rt; "not drafted")?,
     }
     Ok(())
 }

@@ -1,5 +1,5 @@
 -- A kind of logical type has no other kind's payload.
-use Rattle.std.proofs.Common.{◌≡◌, ℕ, true, false, cond, List, ℤ, Some, None, codes, Option, sym, refl, ◌∙◌, subst, arith, w8, w32, MatchOption}
+use Rattle.std.proofs.Common.{◌≡◌, ℕ, true, false, cond, List, ℤ, Some, None, codes, Option, sym, refl, ◌∙◌, subst, arith, w8, w32}
 use Rattle.std.specs.Str.{bytes_eq}
 use Rattle.std.proofs.lemmas.Slice.Eq.{bytes_eq-Decides}
 use Rattle.schema.specs.declared.basic.LogicalType.{LogicalType}
@@ -10,7 +10,7 @@ use Rattle.script.specs.declared.words.Sign.TheVariants as s
 use Rattle.script.specs.declared.words.Clock.{Clock}
 use Rattle.script.specs.declared.words.Clock.TheVariants as k
 use Rattle.script.specs.Cuts.{Parts}
-use Rattle.script.specs.Spelling.{NumberSpelled, sign_word, clock_word, unit_word, PayloadSpelled, SpelledInParts, LogicalSpelled}
+use Rattle.script.specs.Spelling.{NumberSpelled, sign_word, clock_word, unit_word, PayloadSpelled, SpelledInParts, LogicalSpelled, Read}
 use Rattle.script.proofs.Cutting.{same_parts}
 
 differ : (a b : List ℕ) → bytes_eq a b ≡ false → a ≡ b → ⊥
@@ -19,64 +19,35 @@ differ a b apart e =
     let y : ◌≡◌ {A = ℕ} 0 1 = cc in
     omega arith
 
+-- only four kinds of logical type have a payload
+none_of_four : (kind first second : List ℕ) → ((a b : ℤ) → kind ≡ codes "decimal" → NumberSpelled w32 first a → NumberSpelled w32 second b → ⊥) → ((a : ℤ) (b : Sign) → kind ≡ codes "integer" → NumberSpelled w8 first a → second ≡ sign_word b → ⊥) → ((a : Clock) (b : TimeUnit) → kind ≡ codes "time" → first ≡ clock_word a → second ≡ unit_word b → ⊥) → ((a : Clock) (b : TimeUnit) → kind ≡ codes "timestamp" → first ≡ clock_word a → second ≡ unit_word b → ⊥) → (x : LogicalType) → PayloadSpelled kind first second x → ⊥
+none_of_four kind first second if_decimal if_integer if_time if_timestamp l.Unknown h = h
+none_of_four kind first second if_decimal if_integer if_time if_timestamp l.String h = h
+none_of_four kind first second if_decimal if_integer if_time if_timestamp l.Enum h = h
+none_of_four kind first second if_decimal if_integer if_time if_timestamp l.Json h = h
+none_of_four kind first second if_decimal if_integer if_time if_timestamp l.Bson h = h
+none_of_four kind first second if_decimal if_integer if_time if_timestamp l.Uuid h = h
+none_of_four kind first second if_decimal if_integer if_time if_timestamp l.Float16 h = h
+none_of_four kind first second if_decimal if_integer if_time if_timestamp l.Date h = h
+none_of_four kind first second if_decimal if_integer if_time if_timestamp (l.Decimal scale precision) h = if_decimal scale precision h.0 h.1 h.2
+none_of_four kind first second if_decimal if_integer if_time if_timestamp (l.Integer width signed) h = if_integer width (cond signed s.Signed s.Unsigned) h.0 h.1 h.2
+none_of_four kind first second if_decimal if_integer if_time if_timestamp (l.Time utc unit) h = if_time (cond utc k.Utc k.Local) unit h.0 h.1 h.2
+none_of_four kind first second if_decimal if_integer if_time if_timestamp (l.Timestamp utc unit) h = if_timestamp (cond utc k.Utc k.Local) unit h.0 h.1 h.2
+
 pub no_decimal : (first second : List ℕ) → ((a b : ℤ) → NumberSpelled w32 first a → NumberSpelled w32 second b → ⊥) → (x : LogicalType) → PayloadSpelled (codes "decimal") first second x → ⊥
-no_decimal first second none l.Unknown h = h
-no_decimal first second none l.String h = h
-no_decimal first second none l.Enum h = h
-no_decimal first second none l.Json h = h
-no_decimal first second none l.Bson h = h
-no_decimal first second none l.Uuid h = h
-no_decimal first second none l.Float16 h = h
-no_decimal first second none l.Date h = h
-no_decimal first second none (l.Decimal scale precision) h = none scale precision h.1 h.2
-no_decimal first second none (l.Integer width signed) h = differ (codes "decimal") (codes "integer") refl h.0
-no_decimal first second none (l.Time utc unit) h = differ (codes "decimal") (codes "time") refl h.0
-no_decimal first second none (l.Timestamp utc unit) h = differ (codes "decimal") (codes "timestamp") refl h.0
+no_decimal first second none = none_of_four (codes "decimal") first second (λ a b _. none a b) (λ _ _ e _ _. differ (codes "decimal") (codes "integer") refl e) (λ _ _ e _ _. differ (codes "decimal") (codes "time") refl e) (λ _ _ e _ _. differ (codes "decimal") (codes "timestamp") refl e)
 
 pub no_integer : (first second : List ℕ) → ((a : ℤ) (b : Sign) → NumberSpelled w8 first a → second ≡ sign_word b → ⊥) → (x : LogicalType) → PayloadSpelled (codes "integer") first second x → ⊥
-no_integer first second none l.Unknown h = h
-no_integer first second none l.String h = h
-no_integer first second none l.Enum h = h
-no_integer first second none l.Json h = h
-no_integer first second none l.Bson h = h
-no_integer first second none l.Uuid h = h
-no_integer first second none l.Float16 h = h
-no_integer first second none l.Date h = h
-no_integer first second none (l.Decimal scale precision) h = differ (codes "integer") (codes "decimal") refl h.0
-no_integer first second none (l.Integer width signed) h = none width (cond signed s.Signed s.Unsigned) h.1 h.2
-no_integer first second none (l.Time utc unit) h = differ (codes "integer") (codes "time") refl h.0
-no_integer first second none (l.Timestamp utc unit) h = differ (codes "integer") (codes "timestamp") refl h.0
+no_integer first second none = none_of_four (codes "integer") first second (λ _ _ e _ _. differ (codes "integer") (codes "decimal") refl e) (λ a b _. none a b) (λ _ _ e _ _. differ (codes "integer") (codes "time") refl e) (λ _ _ e _ _. differ (codes "integer") (codes "timestamp") refl e)
 
 pub no_time : (first second : List ℕ) → ((a : Clock) (b : TimeUnit) → first ≡ clock_word a → second ≡ unit_word b → ⊥) → (x : LogicalType) → PayloadSpelled (codes "time") first second x → ⊥
-no_time first second none l.Unknown h = h
-no_time first second none l.String h = h
-no_time first second none l.Enum h = h
-no_time first second none l.Json h = h
-no_time first second none l.Bson h = h
-no_time first second none l.Uuid h = h
-no_time first second none l.Float16 h = h
-no_time first second none l.Date h = h
-no_time first second none (l.Decimal scale precision) h = differ (codes "time") (codes "decimal") refl h.0
-no_time first second none (l.Integer width signed) h = differ (codes "time") (codes "integer") refl h.0
-no_time first second none (l.Time utc unit) h = none (cond utc k.Utc k.Local) unit h.1 h.2
-no_time first second none (l.Timestamp utc unit) h = differ (codes "time") (codes "timestamp") refl h.0
+no_time first second none = none_of_four (codes "time") first second (λ _ _ e _ _. differ (codes "time") (codes "decimal") refl e) (λ _ _ e _ _. differ (codes "time") (codes "integer") refl e) (λ a b _. none a b) (λ _ _ e _ _. differ (codes "time") (codes "timestamp") refl e)
 
 pub no_timestamp : (first second : List ℕ) → ((a : Clock) (b : TimeUnit) → first ≡ clock_word a → second ≡ unit_word b → ⊥) → (x : LogicalType) → PayloadSpelled (codes "timestamp") first second x → ⊥
-no_timestamp first second none l.Unknown h = h
-no_timestamp first second none l.String h = h
-no_timestamp first second none l.Enum h = h
-no_timestamp first second none l.Json h = h
-no_timestamp first second none l.Bson h = h
-no_timestamp first second none l.Uuid h = h
-no_timestamp first second none l.Float16 h = h
-no_timestamp first second none l.Date h = h
-no_timestamp first second none (l.Decimal scale precision) h = differ (codes "timestamp") (codes "decimal") refl h.0
-no_timestamp first second none (l.Integer width signed) h = differ (codes "timestamp") (codes "integer") refl h.0
-no_timestamp first second none (l.Time utc unit) h = differ (codes "timestamp") (codes "time") refl h.0
-no_timestamp first second none (l.Timestamp utc unit) h = none (cond utc k.Utc k.Local) unit h.1 h.2
+no_timestamp first second none = none_of_four (codes "timestamp") first second (λ _ _ e _ _. differ (codes "timestamp") (codes "decimal") refl e) (λ _ _ e _ _. differ (codes "timestamp") (codes "integer") refl e) (λ _ _ e _ _. differ (codes "timestamp") (codes "time") refl e) (λ a b _. none a b)
 
 -- a word in its parts is the logical type that the parts tell
-pub of_parts : (w kind first second : List ℕ) → Parts w kind first second → (r : Option LogicalType) → MatchOption r ((x : LogicalType) → PayloadSpelled kind first second x → ⊥) (λ x. PayloadSpelled kind first second x) → MatchOption r ((x : LogicalType) → SpelledInParts w x → ⊥) (λ x. SpelledInParts w x)
+pub of_parts : (w kind first second : List ℕ) → Parts w kind first second → (r : Option LogicalType) → Read (PayloadSpelled kind first second) r → Read (SpelledInParts w) r
 of_parts w kind first second p (Some x) h = (kind, first, second, p, h)
 of_parts w kind first second p None h =
     λ x q.
@@ -123,6 +94,6 @@ not_spelled w plain none (l.Integer width signed) h = none (l.Integer width sign
 not_spelled w plain none (l.Time utc unit) h = none (l.Time utc unit) h
 not_spelled w plain none (l.Timestamp utc unit) h = none (l.Timestamp utc unit) h
 
-pub spelled : (w : List ℕ) → NoPlainWord w → (r : Option LogicalType) → MatchOption r ((x : LogicalType) → SpelledInParts w x → ⊥) (λ x. SpelledInParts w x) → MatchOption r ((x : LogicalType) → LogicalSpelled w x → ⊥) (λ x. LogicalSpelled w x)
+pub spelled : (w : List ℕ) → NoPlainWord w → (r : Option LogicalType) → Read (SpelledInParts w) r → Read (LogicalSpelled w) r
 spelled w plain None h = not_spelled w plain h
 spelled w plain (Some x) h = in_parts_spelled w x h

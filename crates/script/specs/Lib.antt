@@ -1,3 +1,2 @@
 pub mod Cuts
-pub mod Leaves
 pub mod Spelling

@@ -1,5 +1,5 @@
 -- How the words of a script spell numbers and the words of the Parquet format.
-use Rattle.std.specs.Prelude.{◌≡◌, ℕ, cond, List, ℤ, Some, None, codes, Option, FitsSigned, ◌≢◌}
+use Rattle.std.specs.Prelude.{◌≡◌, ℕ, cond, List, ℤ, Some, None, codes, Option, MatchOption, FitsSigned, ◌≢◌}
 use Rattle.std.specs.Int.{Width, w8, w32}
 use Rattle.std.specs.Str.Parse.{IsNumeral, without_leading_sign, signed_digits_value}
 use Rattle.schema.specs.declared.basic.Repetition.{Repetition}
@@ -23,6 +23,10 @@ use Rattle.script.specs.declared.words.Clock.TheVariants as k
 -- decimal digits, after a sign if there is one, for a number that fits its width
 abbrev pub NumberSpelled : Width → List ℕ → ℤ → Type 0
 NumberSpelled width w n = IsNumeral 10 (without_leading_sign w) × FitsSigned width n × (n ≡ signed_digits_value 10 w)
+
+-- what is read is of P, and is none only where nothing is of P
+abbrev pub Read : {T : Type 0} → (T → Type 0) → Option T → Type 0
+Read {T} P r = MatchOption r ((x : T) → P x → ⊥) P
 
 -- one word for what is absent, else a word of P
 abbrev pub OptionalSpelled : {T : Type 0} → List ℕ → (List ℕ → T → Type 0) → List ℕ → Option T → Type 0

@@ -1,6 +1,6 @@
 // What a line of a script asks for.
-use crate::hints::{HintType, read_type};
-use crate::words::{OrNone, Words};
+use crate::hints::{read_type, HintLine};
+use crate::words::{OrNone, Words, number};
 use schema::{Annotation, ConvertedType, Leaf, LogicalType, PhysicalType, Repetition};
 
 // A command, with the line that spells it. One space stands between two words, `-` is what is absent, and a name is the
@@ -35,13 +35,7 @@ pub enum Command<'a> {
     // select all, select leaves N.., select roots N..
     Select(Select<'a>),
     // hint DEPTH NULLABLE METADATA TYPE NAME
-    Hint {
-        depth: usize,
-        nullable: bool,
-        metadata: u32,
-        data_type: HintType<'a>,
-        name: &'a [u8],
-    },
+    Hint(HintLine<'a>),
     // hints
     Hints,
     // convert or levels, with whatever words: planned, and not there yet
@@ -91,53 +85,38 @@ impl<'a> Command<'a> {
             "begin" => Command::begin(words),
             "open" => Command::open(words),
             "add" => Command::add(words),
-            "close" => {
-                words.end()?;
-                Some(Command::Close)
-            }
-            "finish" => {
-                words.end()?;
-                Some(Command::Finish)
-            }
-            "list" => {
-                words.end()?;
-                Some(Command::List)
-            }
+            "close" => words.is_done().then_some(Command::Close),
+            "finish" => words.is_done().then_some(Command::Finish),
+            "list" => words.is_done().then_some(Command::List),
             "select" => Command::select(words),
             "hint" => Command::hint(words),
-            "hints" => {
-                words.end()?;
-                Some(Command::Hints)
-            }
+            "hints" => words.is_done().then_some(Command::Hints),
             "convert" | "levels" => Some(Command::Planned),
             _ => None,
         }
     }
 
     fn hint(mut words: Words<'a>) -> Option<Command<'a>> {
-        let depth = words.number()?;
+        let depth = number(words.next()?)?;
         let nullable = match words.word()? {
             "null" => true,
             "notnull" => false,
             _ => return None,
         };
-        let metadata = u32::try_from(words.number()?).ok()?;
+        let metadata = number(words.next()?)?;
         let data_type = read_type(words.word()?)?;
-        Some(Command::Hint {
+        Some(Command::Hint(HintLine {
             depth,
             nullable,
             metadata,
             data_type,
             name: words.name(),
-        })
+        }))
     }
 
     fn select(mut words: Words<'a>) -> Option<Command<'a>> {
         match words.word()? {
-            "all" => {
-                words.end()?;
-                Some(Command::Select(Select::All))
-            }
+            "all" => words.is_done().then_some(Command::Select(Select::All)),
             "leaves" => Some(Command::Select(Select::Leaves(numbers(words)?))),
             "roots" => Some(Command::Select(Select::Roots(numbers(words)?))),
             _ => None,
@@ -180,15 +159,8 @@ impl<'a> Command<'a> {
 // The rest of the line, if each of its words is a number.
 fn numbers<'a>(words: Words<'a>) -> Option<&'a [u8]> {
     let text = words.name();
-    let mut words = Words::new(text);
-    // there are no more numbers than bytes
-    for _ in text {
-        if words.is_done() {
-            break;
-        }
-        words.number()?;
-    }
-    Some(text)
+    let all = text.is_empty() || Words::new(text).all(|word| number::<usize>(word).is_some());
+    all.then_some(text)
 }
 
 // A number of a leaf, where an absent one is 0.

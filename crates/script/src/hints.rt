@@ -11,64 +11,73 @@ pub enum HintType<'a> {
     Zoned(TimeUnit, &'a [u8]),
 }
 
-fn plain(word: &str) -> Option<ArrowType> {
-    match word {
-        "null" => Some(ArrowType::Null),
-        "boolean" => Some(ArrowType::Boolean),
-        "int8" => Some(ArrowType::Int8),
-        "int16" => Some(ArrowType::Int16),
-        "int32" => Some(ArrowType::Int32),
-        "int64" => Some(ArrowType::Int64),
-        "uint8" => Some(ArrowType::UInt8),
-        "uint16" => Some(ArrowType::UInt16),
-        "uint32" => Some(ArrowType::UInt32),
-        "uint64" => Some(ArrowType::UInt64),
-        "float16" => Some(ArrowType::Float16),
-        "float32" => Some(ArrowType::Float32),
-        "float64" => Some(ArrowType::Float64),
-        "utf8" => Some(ArrowType::Utf8),
-        "large_utf8" => Some(ArrowType::LargeUtf8),
-        "utf8_view" => Some(ArrowType::Utf8View),
-        "binary" => Some(ArrowType::Binary),
-        "large_binary" => Some(ArrowType::LargeBinary),
-        "binary_view" => Some(ArrowType::BinaryView),
-        "date32" => Some(ArrowType::Date32),
-        "date64" => Some(ArrowType::Date64),
-        "list" => Some(ArrowType::List),
-        "large_list" => Some(ArrowType::LargeList),
-        "list_view" => Some(ArrowType::ListView),
-        "large_list_view" => Some(ArrowType::LargeListView),
-        "struct" => Some(ArrowType::Struct),
-        "dictionary" => Some(ArrowType::Dictionary(0)),
-        _ => None,
+// The types that have no arguments. A dictionary's number plays no part in a hint.
+const PLAIN: [(&str, ArrowType); 27] = [
+    ("null", ArrowType::Null),
+    ("boolean", ArrowType::Boolean),
+    ("int8", ArrowType::Int8),
+    ("int16", ArrowType::Int16),
+    ("int32", ArrowType::Int32),
+    ("int64", ArrowType::Int64),
+    ("uint8", ArrowType::UInt8),
+    ("uint16", ArrowType::UInt16),
+    ("uint32", ArrowType::UInt32),
+    ("uint64", ArrowType::UInt64),
+    ("float16", ArrowType::Float16),
+    ("float32", ArrowType::Float32),
+    ("float64", ArrowType::Float64),
+    ("utf8", ArrowType::Utf8),
+    ("large_utf8", ArrowType::LargeUtf8),
+    ("utf8_view", ArrowType::Utf8View),
+    ("binary", ArrowType::Binary),
+    ("large_binary", ArrowType::LargeBinary),
+    ("binary_view", ArrowType::BinaryView),
+    ("date32", ArrowType::Date32),
+    ("date64", ArrowType::Date64),
+    ("list", ArrowType::List),
+    ("large_list", ArrowType::LargeList),
+    ("list_view", ArrowType::ListView),
+    ("large_list_view", ArrowType::LargeListView),
+    ("struct", ArrowType::Struct),
+    ("dictionary", ArrowType::Dictionary(0)),
+];
+
+const UNITS: [(&str, TimeUnit); 4] = [
+    ("s", TimeUnit::Second),
+    ("ms", TimeUnit::Millisecond),
+    ("us", TimeUnit::Microsecond),
+    ("ns", TimeUnit::Nanosecond),
+];
+
+const INTERVALS: [(&str, IntervalUnit); 3] = [
+    ("year_month", IntervalUnit::YearMonth),
+    ("day_time", IntervalUnit::DayTime),
+    ("month_day_nano", IntervalUnit::MonthDayNano),
+];
+
+// Whether a map's keys are sorted.
+const ORDERS: [(&str, bool); 2] = [("sorted", true), ("unsorted", false)];
+
+// What a word of the table stands for.
+fn read<T: Copy>(table: &[(&str, T)], word: &str) -> Option<T> {
+    let (_, value) = table.iter().find(|(name, _)| *name == word)?;
+    Some(*value)
+}
+
+// The word of the table for a value, which has one.
+fn word_of<T: Copy + PartialEq>(table: &[(&'static str, T)], value: T) -> &'static str {
+    match table.iter().find(|(_, other)| *other == value) {
+        Some((word, _)) => word,
+        None => "?",
     }
 }
 
 fn unit(word: &str) -> Option<TimeUnit> {
-    match word {
-        "s" => Some(TimeUnit::Second),
-        "ms" => Some(TimeUnit::Millisecond),
-        "us" => Some(TimeUnit::Microsecond),
-        "ns" => Some(TimeUnit::Nanosecond),
-        _ => None,
-    }
+    read(&UNITS, word)
 }
 
-fn interval_unit(word: &str) -> Option<IntervalUnit> {
-    match word {
-        "year_month" => Some(IntervalUnit::YearMonth),
-        "day_time" => Some(IntervalUnit::DayTime),
-        "month_day_nano" => Some(IntervalUnit::MonthDayNano),
-        _ => None,
-    }
-}
-
-fn sorted(word: &str) -> Option<bool> {
-    match word {
-        "sorted" => Some(true),
-        "unsorted" => Some(false),
-        _ => None,
-    }
+fn unit_word(unit: TimeUnit) -> &'static str {
+    word_of(&UNITS, unit)
 }
 
 // `kind(argument)`
@@ -80,8 +89,8 @@ fn of_one(kind: &str, argument: &str) -> Option<ArrowType> {
         "time64" => Some(ArrowType::Time64(unit(argument)?)),
         "timestamp" => Some(ArrowType::Timestamp(unit(argument)?, None)),
         "duration" => Some(ArrowType::Duration(unit(argument)?)),
-        "interval" => Some(ArrowType::Interval(interval_unit(argument)?)),
-        "map" => Some(ArrowType::Map(sorted(argument)?)),
+        "interval" => Some(ArrowType::Interval(read(&INTERVALS, argument)?)),
+        "map" => Some(ArrowType::Map(read(&ORDERS, argument)?)),
         _ => None,
     }
 }
@@ -109,62 +118,12 @@ fn of_two<'a>(kind: &str, first: &str, second: &'a str) -> Option<HintType<'a>> 
 // The type that a word spells, if it spells one.
 pub fn read_type(word: &str) -> Option<HintType<'_>> {
     let Some((kind, rest)) = word.split_once('(') else {
-        return Some(HintType::Plain(plain(word)?));
+        return Some(HintType::Plain(read(&PLAIN, word)?));
     };
     let arguments = rest.strip_suffix(')')?;
     match arguments.split_once(',') {
         Some((first, second)) => of_two(kind, first, second),
         None => Some(HintType::Plain(of_one(kind, arguments)?)),
-    }
-}
-
-fn unit_word(unit: TimeUnit) -> &'static str {
-    match unit {
-        TimeUnit::Second => "s",
-        TimeUnit::Millisecond => "ms",
-        TimeUnit::Microsecond => "us",
-        TimeUnit::Nanosecond => "ns",
-    }
-}
-
-fn interval_word(unit: IntervalUnit) -> &'static str {
-    match unit {
-        IntervalUnit::YearMonth => "year_month",
-        IntervalUnit::DayTime => "day_time",
-        IntervalUnit::MonthDayNano => "month_day_nano",
-    }
-}
-
-// The word of a type that has no arguments.
-fn plain_word(data_type: ArrowType) -> &'static str {
-    match data_type {
-        ArrowType::Null => "null",
-        ArrowType::Boolean => "boolean",
-        ArrowType::Int8 => "int8",
-        ArrowType::Int16 => "int16",
-        ArrowType::Int32 => "int32",
-        ArrowType::Int64 => "int64",
-        ArrowType::UInt8 => "uint8",
-        ArrowType::UInt16 => "uint16",
-        ArrowType::UInt32 => "uint32",
-        ArrowType::UInt64 => "uint64",
-        ArrowType::Float16 => "float16",
-        ArrowType::Float32 => "float32",
-        ArrowType::Float64 => "float64",
-        ArrowType::Utf8 => "utf8",
-        ArrowType::LargeUtf8 => "large_utf8",
-        ArrowType::Utf8View => "utf8_view",
-        ArrowType::Binary => "binary",
-        ArrowType::LargeBinary => "large_binary",
-        ArrowType::BinaryView => "binary_view",
-        ArrowType::Date32 => "date32",
-        ArrowType::Date64 => "date64",
-        ArrowType::List => "list",
-        ArrowType::LargeList => "large_list",
-        ArrowType::ListView => "list_view",
-        ArrowType::LargeListView => "large_list_view",
-        ArrowType::Struct => "struct",
-        _ => "dictionary",
     }
 }
 
@@ -176,10 +135,8 @@ pub struct TypeWord<'a> {
 }
 
 fn place_of(text: &[u8], place: TextPlace) -> &[u8] {
-    match text.get(place.start..place.start.saturating_add(place.length)) {
-        Some(bytes) => bytes,
-        None => &[],
-    }
+    text.get(place.start..place.start.saturating_add(place.length))
+        .unwrap_or(&[])
 }
 
 impl fmt::Display for TypeWord<'_> {
@@ -190,7 +147,7 @@ impl fmt::Display for TypeWord<'_> {
             ArrowType::Time32(unit) => write!(f, "time32({})", unit_word(unit)),
             ArrowType::Time64(unit) => write!(f, "time64({})", unit_word(unit)),
             ArrowType::Duration(unit) => write!(f, "duration({})", unit_word(unit)),
-            ArrowType::Interval(unit) => write!(f, "interval({})", interval_word(unit)),
+            ArrowType::Interval(unit) => write!(f, "interval({})", word_of(&INTERVALS, unit)),
             ArrowType::Timestamp(unit, None) => write!(f, "timestamp({})", unit_word(unit)),
             ArrowType::Timestamp(unit, Some(Zone::Utc)) => write!(
                 f,
@@ -209,18 +166,36 @@ impl fmt::Display for TypeWord<'_> {
             ArrowType::Decimal64(p, s) => write!(f, "decimal64({p},{s})"),
             ArrowType::Decimal128(p, s) => write!(f, "decimal128({p},{s})"),
             ArrowType::Decimal256(p, s) => write!(f, "decimal256({p},{s})"),
-            ArrowType::Map(true) => f.write_str("map(sorted)"),
-            ArrowType::Map(false) => f.write_str("map(unsorted)"),
-            other => f.write_str(plain_word(other)),
+            ArrowType::Map(sorted) => write!(f, "map({})", word_of(&ORDERS, sorted)),
+            ArrowType::Dictionary(_) => f.write_str("dictionary"),
+            other => f.write_str(word_of(&PLAIN, other)),
         }
     }
 }
 
-// The hint rows that a script has spelled, with their depths, and their text.
+// A hint row as a script spells it.
+#[derive(Clone, Copy)]
+pub struct HintLine<'a> {
+    pub depth: usize,
+    pub nullable: bool,
+    pub metadata: u32,
+    pub data_type: HintType<'a>,
+    pub name: &'a [u8],
+}
+
+// A row that may have more rows below it.
+#[derive(Clone, Copy)]
+struct Open {
+    depth: usize,
+    row: usize,
+}
+
+// The hint rows that a script has spelled, and their text.
 #[derive(Drop)]
 pub struct Hints {
     rows: Vec<HintRow>,
-    depths: Vec<usize>,
+    // the last row and those above it, each deeper than the one before
+    open: Vec<Open>,
     text: Vec<u8>,
 }
 
@@ -228,14 +203,14 @@ impl Hints {
     pub fn new(heap: Global) -> Hints {
         Hints {
             rows: Vec::new(heap),
-            depths: Vec::new(heap),
+            open: Vec::new(heap),
             text: Vec::new(heap),
         }
     }
 
     pub fn clear(&mut self) {
         self.rows.clear();
-        self.depths.clear();
+        self.open.clear();
         self.text.clear();
     }
 
@@ -253,61 +228,51 @@ impl Hints {
     }
 
     // One row more, and its number.
-    pub fn push(
-        &mut self,
-        depth: usize,
-        nullable: bool,
-        metadata: u32,
-        data_type: HintType<'_>,
-        name: &[u8],
-    ) -> Result<usize, AllocError> {
+    pub fn push(&mut self, line: HintLine<'_>) -> Result<usize, AllocError> {
         let number = self.rows.len();
-        let name = self.lay(name)?;
-        let data_type = match data_type {
+        let name = self.lay(line.name)?;
+        let data_type = match line.data_type {
             HintType::Plain(data_type) => data_type,
             HintType::Zoned(unit, zone) => ArrowType::Timestamp(
                 unit,
                 Some(Zone::Text(self.lay(zone)?)),
             ),
         };
+        self.end_rows(line.depth);
         self.rows.push(HintRow {
             name,
             data_type,
-            nullable,
-            metadata,
+            nullable: line.nullable,
+            metadata: line.metadata,
             size: 1,
         })?;
-        self.depths.push(depth)?;
+        self.open.push(Open {
+            depth: line.depth,
+            row: number,
+        })?;
         Ok(number)
     }
 
-    // How many rows from `at` on lie deeper than `depth`, up to the first that does not.
-    fn deeper(&self, at: usize, depth: usize) -> usize {
-        let mut count: usize = 0;
-        for other in self.depths.iter().skip(at) {
-            if *other <= depth {
-                break;
+    // A row at this depth comes next, so the open rows that are no shallower end here.
+    fn end_rows(&mut self, depth: usize) {
+        let above = self.open.partition_point(|open| open.depth < depth);
+        self.size_rows(above);
+        self.open.truncate(above);
+    }
+
+    // Gives the open rows past the first so many their sizes.
+    fn size_rows(&mut self, above: usize) {
+        let end = self.rows.len();
+        for open in self.open.iter().skip(above) {
+            if let Some(row) = self.rows.get_mut(open.row) {
+                row.size = end.saturating_sub(open.row);
             }
-            count = count.saturating_add(1);
-        }
-        count
-    }
-
-    fn size_of(&self, at: usize) -> usize {
-        match self.depths.get(at) {
-            Some(depth) => self.deeper(at.saturating_add(1), *depth).saturating_add(1),
-            None => 1,
         }
     }
 
-    // Works the sizes out from the depths, and says whether the rows are a hint.
+    // Gives the open rows the sizes that they have so far, and says whether the rows are a hint.
     pub fn check(&mut self) -> bool {
-        for at in 0..self.rows.len() {
-            let size = self.size_of(at);
-            if let Some(row) = self.rows.get_mut(at) {
-                row.size = size;
-            }
-        }
+        self.size_rows(0);
         check_hints(&self.rows, &self.text)
     }
 

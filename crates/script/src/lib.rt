@@ -9,6 +9,6 @@ mod show;
 mod words;
 
 pub use command::{Command, Line, Select};
-pub use hints::HintType;
+pub use hints::{HintLine, HintType};
 pub use run::run_program;
 pub use session::{Answer, Session};

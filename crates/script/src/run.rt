@@ -1,6 +1,5 @@
 // A program that runs one script.
 use crate::session::Session;
-use crate::words::cut;
 use anyhow::anyhow;
 use std::io::Read;
 use std::{env, fs, io};
@@ -34,12 +33,10 @@ fn read_script(rt: &HostRuntime, built_in: &str) -> anyhow::Result<Vec<u8>> {
 // Runs a script line by line, and prints what came of each.
 fn run_script(rt: &HostRuntime, script: &[u8]) -> io::Result<()> {
     let mut session = Session::new(rt.alloc())?;
-    let mut rest = script;
-    while let Some((line, after)) = cut(rest, b'\n') {
+    for line in script.split(|byte| *byte == b'\n') {
         rt.print(session.answer(rt.alloc(), line)?)?;
-        rest = after;
     }
-    rt.print(session.answer(rt.alloc(), rest)?)
+    Ok(())
 }
 
 // Runs the script that the program is given, or the built-in one.

@@ -1,29 +1,27 @@
 // A run of commands over memory of its own.
-ghost use Rattle.std.specs.Prelude.{◌≡◌};
-ghost use Rattle.script.specs.Leaves.{leaf_count};
+ghost use Rattle.std.specs.Prelude.{◌≡◌, length};
+ghost use Rattle.columns.specs.Levels.{leaves_of};
+ghost use Rattle.script.specs.declared.session.Answer.TheVariants.{Finished};
 
 use crate::command::{Command, Line, Select};
 use crate::hints::Hints;
 use crate::show::{ColumnRow, Row, Text};
-use crate::words::Words;
-use columns::{Column, PathRecord, list};
+use crate::words::{Words, number};
+use columns::{Column, PathRecord, count_leaves, list};
 use schema::{Annotation, Draft, Element, Leaf, Refusal, Repetition, Schema};
 use selection::flag;
 use std::alloc::{AllocError, Global};
-
-// As many elements as a schema may have.
-const ELEMENTS: usize = 4096;
+use tree::Row as _;
 
 // The bytes of all names of a schema.
 const NAME_BYTES: usize = 65536;
 
 // The longest path times as many leaves as a schema may have.
-const PATH_NUMBERS: usize = 262144;
+const PATH_NUMBERS: usize = 64 * Element::MOST;
 
 // How far the schema is.
 #[derive(Drop)]
 enum Stage {
-    None,
     Drafting(Draft),
     Finished(Schema),
 }
@@ -62,7 +60,8 @@ enum Selected {
 pub struct Session {
     elements: Vec<Element>,
     names: Vec<u8>,
-    stage: Stage,
+    // none before the first draft
+    stage: Option<Stage>,
     columns: Vec<Column>,
     paths: Vec<usize>,
     walked: PathRecord,
@@ -71,29 +70,27 @@ pub struct Session {
     hints: Hints,
 }
 
-fn count_leaves(rows: &[Element]) -> usize
-    ensures { result ≡ leaf_count rows.now }
+// What is told of a finished schema.
+fn finished(rows: &[Element]) -> Answer
+    ensures { result ≡ Finished (length rows.now) (length (leaves_of rows.now)) }
 {
-    let mut leaves = 0;
-    for row in rows {
-        if !row.kind.is_group() {
-            leaves += 1;
-        }
+    Answer::Finished {
+        elements: rows.len(),
+        leaves: count_leaves(rows),
     }
-    leaves
 }
 
 impl Session {
     pub fn new(heap: Global) -> Result<Session, AllocError> {
         Ok(Session {
-            elements: vec![in heap; Element::EMPTY; ELEMENTS]?,
+            elements: vec![in heap; Element::EMPTY; Element::MOST]?,
             names: vec![in heap; 0; NAME_BYTES]?,
-            stage: Stage::None,
-            columns: vec![in heap; Column::EMPTY; ELEMENTS]?,
+            stage: None,
+            columns: vec![in heap; Column::EMPTY; Element::MOST]?,
             paths: vec![in heap; 0; PATH_NUMBERS]?,
             walked: PathRecord::EMPTY,
             selected: Selected::All,
-            flags: vec![in heap; false; ELEMENTS]?,
+            flags: vec![in heap; false; Element::MOST]?,
             hints: Hints::new(heap),
         })
     }
@@ -120,23 +117,21 @@ impl Session {
                 annotation,
                 field_id,
                 name,
-            } => self.open(name, repetition, annotation, field_id),
+            } => self.spell(|draft, elements, names| {
+                draft.open(elements, names, name, repetition, annotation, field_id)
+            }),
             Command::Add {
                 repetition,
                 leaf,
                 field_id,
                 name,
-            } => self.add(name, repetition, leaf, field_id),
+            } => self.spell(|draft, elements, names| {
+                draft.add(elements, names, name, repetition, leaf, field_id)
+            }),
             Command::Close => self.close(),
             Command::Finish => self.finish(),
             Command::List => self.list(),
-            Command::Hint {
-                depth,
-                nullable,
-                metadata,
-                data_type,
-                name,
-            } => match self.hints.push(depth, nullable, metadata, data_type, name) {
+            Command::Hint(line) => match self.hints.push(line) {
                 Ok(row) => Answer::Hinted { row },
                 Err(_) => Answer::Short,
             },
@@ -151,7 +146,7 @@ impl Session {
     fn begin(&mut self, name: &[u8], field_id: Option<i32>) -> Answer {
         match Draft::begin(&mut self.elements, &mut self.names, name, field_id) {
             Ok(draft) => {
-                self.stage = Stage::Drafting(draft);
+                self.stage = Some(Stage::Drafting(draft));
                 self.selected = Selected::All;
                 self.hints.clear();
                 Answer::Begun
@@ -160,56 +155,24 @@ impl Session {
         }
     }
 
-    fn open(
-        &mut self,
-        name: &[u8],
-        repetition: Repetition,
-        annotation: Option<Annotation>,
-        field_id: Option<i32>,
-    ) -> Answer {
-        let Stage::Drafting(draft) = &mut self.stage else {
+    // Runs a call that spells an element, and tells its number and depth.
+    fn spell<F>(&mut self, call: F) -> Answer
+    where
+        F: FnOnce(&mut Draft, &mut [Element], &mut [u8]) -> Result<usize, Refusal>,
+        requires { F.IsAlwaysCallable call }
+    {
+        let Some(Stage::Drafting(draft)) = &mut self.stage else {
             return Answer::NoDraft;
         };
         let depth = draft.open_groups();
-        match draft.open(
-            &mut self.elements,
-            &mut self.names,
-            name,
-            repetition,
-            annotation,
-            field_id,
-        ) {
-            Ok(element) => Answer::Spelled { element, depth },
-            Err(refusal) => Answer::Refused(refusal),
-        }
-    }
-
-    fn add(
-        &mut self,
-        name: &[u8],
-        repetition: Repetition,
-        leaf: Leaf,
-        field_id: Option<i32>,
-    ) -> Answer {
-        let Stage::Drafting(draft) = &mut self.stage else {
-            return Answer::NoDraft;
-        };
-        let depth = draft.open_groups();
-        match draft.add(
-            &mut self.elements,
-            &mut self.names,
-            name,
-            repetition,
-            leaf,
-            field_id,
-        ) {
+        match call(draft, &mut self.elements, &mut self.names) {
             Ok(element) => Answer::Spelled { element, depth },
             Err(refusal) => Answer::Refused(refusal),
         }
     }
 
     fn close(&mut self) -> Answer {
-        let Stage::Drafting(draft) = &mut self.stage else {
+        let Some(Stage::Drafting(draft)) = &mut self.stage else {
             return Answer::NoDraft;
         };
         match draft.close() {
@@ -221,8 +184,8 @@ impl Session {
     }
 
     fn finish(&mut self) -> Answer {
-        match std::mem::replace(&mut self.stage, Stage::None) {
-            Stage::Drafting(draft) => self.finish_draft(draft),
+        match self.stage.take() {
+            Some(Stage::Drafting(draft)) => self.finish_draft(draft),
             other => {
                 self.stage = other;
                 Answer::NoDraft
@@ -233,22 +196,18 @@ impl Session {
     fn finish_draft(&mut self, draft: Draft) -> Answer {
         match draft.finish(&mut self.elements, &self.names) {
             Ok(schema) => {
-                self.stage = Stage::Finished(schema);
-                let rows = self.rows();
-                Answer::Finished {
-                    elements: rows.len(),
-                    leaves: count_leaves(rows),
-                }
+                self.stage = Some(Stage::Finished(schema));
+                finished(self.rows())
             }
             Err((draft, refusal)) => {
-                self.stage = Stage::Drafting(draft);
+                self.stage = Some(Stage::Drafting(draft));
                 Answer::Refused(refusal)
             }
         }
     }
 
     fn list(&mut self) -> Answer {
-        let Stage::Finished(schema) = &self.stage else {
+        let Some(Stage::Finished(schema)) = &self.stage else {
             return Answer::NoSchema;
         };
         match list(
@@ -283,28 +242,20 @@ impl Session {
     // refused, and the others are flagged all the same.
     fn select(&mut self, selected: Selected, numbers: &[u8]) -> Answer {
         self.selected = selected;
-        for set in self.flags.iter_mut() {
-            *set = false;
-        }
-        let mut flagged: usize = 0;
-        let mut words = Words::new(numbers);
-        for _ in numbers {
-            if let Some(number) = words.number() {
-                if flag(&mut self.flags, number).is_ok() {
-                    flagged = flagged.saturating_add(1);
-                }
-            }
-        }
+        self.flags.fill(false);
+        let flagged = Words::new(numbers)
+            .filter_map(number)
+            .filter(|number| flag(&mut self.flags, *number).is_ok())
+            .count();
         Answer::Selected { flagged }
     }
 
     // The rows of the finished schema.
     fn rows(&self) -> &[Element] {
         match &self.stage {
-            Stage::Finished(schema) => match self.elements.get(0..schema.elements()) {
-                Some(rows) => rows,
-                None => &[],
-            },
+            Some(Stage::Finished(schema)) => {
+                self.elements.get(0..schema.elements()).unwrap_or(&[])
+            }
             _ => &[],
         }
     }
@@ -343,18 +294,15 @@ impl Session {
 
     // What came of each number of a `select`.
     fn push_flags(&self, heap: Global, text: &mut String, line: &[u8]) -> Result<(), AllocError> {
-        let mut words = Words::new(line);
-        for _ in line {
-            if let Some(number) = words.number() {
-                let row = match self.flags.get(number).copied() {
-                    Some(true) => format!(in heap; "  flag {number}\n")?,
-                    _ => format!(in heap;
-                        "  flag {number}: {}\n",
-                        Answer::Refused(Refusal::FlagOutside)
-                    )?,
-                };
-                text.push_str(row.as_str())?;
-            }
+        for number in Words::new(line).filter_map(number::<usize>) {
+            let row = match self.flags.get(number) {
+                Some(true) => format!(in heap; "  flag {number}\n")?,
+                _ => format!(in heap;
+                    "  flag {number}: {}\n",
+                    Answer::Refused(Refusal::FlagOutside)
+                )?,
+            };
+            text.push_str(row.as_str())?;
         }
         Ok(())
     }

@@ -54,6 +54,8 @@ impl fmt::Display for Answer {
     }
 }
 
+// The words of these three types stand here in a match, and in words.rt the other way round: a table for both ways would be
+// searched in a loop, where each match proves its clause with no proof file.
 fn repetition_word(repetition: Repetition) -> &'static str
     ensures { result.now ≡ repetition_word repetition }
 {

@@ -1,23 +1,20 @@
 // The words of a line, and what each kind of word stands for.
-ghost use Rattle.std.specs.Prelude.{◌≡◌, ℕ, true, List, [], ◌∷◌, ◌++◌, is_some, Some, None, codes, MatchOption, Option};
+ghost use Rattle.std.specs.Prelude.{◌≡◌, ℕ, List, [], ◌∷◌, ◌++◌, Some, None, codes, MatchOption, Option, is_none, Ok, Err, IsUtf8};
 ghost use Rattle.std.specs.Int.{w8, w32};
 ghost use Rattle.std.specs.Option.{option_map, unwrap_or};
-ghost use Rattle.script.specs.Cuts.{Lacks, Next, Parts};
-ghost use Rattle.script.specs.Spelling.{NumberSpelled, OptionalSpelled, repetition_word, annotation_word, physical_word, converted_word, unit_word, sign_word, clock_word, PayloadSpelled, SpelledInParts, LogicalSpelled};
+ghost use Rattle.std.specs.Iterator.{at_most};
+ghost use Rattle.script.specs.Cuts.{Lacks, Next, Parts, most_words};
+ghost use Rattle.script.specs.Spelling.{NumberSpelled, OptionalSpelled, repetition_word, annotation_word, physical_word, converted_word, unit_word, sign_word, clock_word, PayloadSpelled, SpelledInParts, LogicalSpelled, Read};
 
 use schema::{Annotation, ConvertedType, LogicalType, PhysicalType, Repetition, TimeUnit};
-use std::str::from_utf8;
+use std::str::{FromStr, from_utf8};
 
 // What stands before the first such byte and what stands after it, if there is one.
 pub fn cut(text: &[u8], byte: u8) -> Option<(&[u8], &[u8])>
     ensures cases { MatchOption result (Lacks byte text.now) (λ p. Lacks byte p.0.now × (text.now ≡ p.0.now ++ (byte ∷ p.1.now))) }
 {
-    for (i, b) in text.iter().enumerate() {
-        if *b == byte {
-            return Some((&text[0..i], &text[i + 1..text.len()]));
-        }
-    }
-    None
+    let at = text.iter().position(|b| *b == byte)?;
+    Some((&text[..at], &text[at + 1..]))
 }
 
 // A line that is read word by word. One space stands between two words.
@@ -32,35 +29,15 @@ impl<'a> Words<'a> {
         Words { rest: Some(line) }
     }
 
-    // The next word, as bytes.
-    fn next(&mut self) -> Option<&'a [u8]>
-        ensures next { MatchOption result (self.old.rest ≡ None) (λ w. Next (option_map (λ x. x.now) self.old.rest) w.now (option_map (λ x. x.now) self.new.rest)) }
-    {
-        let text = self.rest?;
-        match cut(text, b' ') {
-            Some((word, rest)) => {
-                self.rest = Some(rest);
-                Some(word)
-            }
-            None => {
-                self.rest = None;
-                Some(text)
-            }
-        }
-    }
-
     // The next word, if it is text.
     pub fn word(&mut self) -> Option<&'a str> {
         from_utf8(self.next()?).ok()
     }
 
-    // The next word, if it is a number.
-    pub fn number(&mut self) -> Option<usize> {
-        self.word()?.parse::<usize>().ok()
-    }
-
     // Whether the last word has been read.
-    pub fn is_done(&self) -> bool {
+    pub fn is_done(&self) -> bool
+        ensures done { result ≡ is_none self.now.rest }
+    {
         self.rest.is_none()
     }
 
@@ -73,21 +50,39 @@ impl<'a> Words<'a> {
     pub fn name(self) -> &'a [u8]
         ensures name { result.now ≡ unwrap_or (option_map (λ x. x.now) self.entry.rest) [] }
     {
-        match self.rest {
-            Some(name) => name,
-            None => &[],
-        }
+        self.rest.unwrap_or(&[])
     }
+}
 
-    // Nothing, if no word is left.
-    pub fn end(self) -> Option<()>
-        ensures end { MatchOption result (is_some self.entry.rest ≡ true) (λ _. self.entry.rest ≡ None) }
-    {
-        match self.rest {
-            Some(_) => None,
-            None => Some(()),
+impl<'a> Iterator for Words<'a> {
+    type Item = &'a [u8];
+
+    ghost next_gives = { λ s r t. MatchOption r (s.rest ≡ None) (λ w. Next (option_map (λ x. x.now) s.rest) w.now (option_map (λ x. x.now) t.rest)) };
+
+    ghost remaining = { λ s. at_most (most_words (option_map (λ x. x.now) s.rest)) };
+
+    fn next(&mut self) -> Option<&'a [u8]> {
+        let text = self.rest?;
+        match cut(text, b' ') {
+            Some((word, rest)) => {
+                self.rest = Some(rest);
+                Some(word)
+            }
+            None => {
+                self.rest = None;
+                Some(text)
+            }
         }
     }
+}
+
+// The number that a word spells, if it spells one.
+pub fn number<T: FromStr>(word: &[u8]) -> Option<T>
+where
+    T::Err: Drop,
+    ensures spelled { MatchOption result (IsUtf8 word.now → (e : T.Err) × T.from_str_gives word.now (Err e)) (λ n. IsUtf8 word.now × T.from_str_gives word.now (Ok n)) }
+{
+    from_utf8(word).ok()?.parse::<T>().ok()
 }
 
 // What one word can stand for.
@@ -98,7 +93,7 @@ pub trait FromWord {
     fn from_word(word: &str) -> Option<Self>
     where
         Self: Sized,
-        ensures read { MatchOption result ((x : Self) → spells word.now x → ⊥) (λ x. spells word.now x) };
+        ensures read { Read (spells word.now) result };
 }
 
 // What a word stands for, where one word stands for what is absent.
@@ -132,6 +127,8 @@ impl<T: FromWord> FromWord for OrNone<T> {
     }
 }
 
+// i8 and i32 differ in their width alone. An impl for both at once would need a trait that names the width, which is longer
+// than the second impl.
 impl FromWord for i8 {
     ghost spells = { λ w x. NumberSpelled w8 w x };
 
@@ -293,15 +290,17 @@ fn both<A: FromWord + Drop, B: FromWord>(first: &str, second: &str) -> Option<(A
     Some((a, b))
 }
 
+#[tactic(auto, using(crate::proofs::Payloads::no_decimal))]
 fn decimal(first: &str, second: &str) -> Option<LogicalType>
-    ensures read { MatchOption result ((x : LogicalType) → PayloadSpelled (codes "decimal") first.now second.now x → ⊥) (λ x. PayloadSpelled (codes "decimal") first.now second.now x) }
+    ensures read { Read (PayloadSpelled (codes "decimal") first.now second.now) result }
 {
     let (scale, precision) = both::<i32, i32>(first, second)?;
     Some(LogicalType::Decimal { scale, precision })
 }
 
+#[tactic(auto, using(crate::proofs::Payloads::no_integer))]
 fn integer(first: &str, second: &str) -> Option<LogicalType>
-    ensures read { MatchOption result ((x : LogicalType) → PayloadSpelled (codes "integer") first.now second.now x → ⊥) (λ x. PayloadSpelled (codes "integer") first.now second.now x) }
+    ensures read { Read (PayloadSpelled (codes "integer") first.now second.now) result }
 {
     let (bit_width, sign) = both::<i8, Sign>(first, second)?;
     Some(LogicalType::Integer {
@@ -310,8 +309,9 @@ fn integer(first: &str, second: &str) -> Option<LogicalType>
     })
 }
 
+#[tactic(auto, using(crate::proofs::Payloads::no_time))]
 fn time(first: &str, second: &str) -> Option<LogicalType>
-    ensures read { MatchOption result ((x : LogicalType) → PayloadSpelled (codes "time") first.now second.now x → ⊥) (λ x. PayloadSpelled (codes "time") first.now second.now x) }
+    ensures read { Read (PayloadSpelled (codes "time") first.now second.now) result }
 {
     let (clock, unit) = both::<Clock, TimeUnit>(first, second)?;
     Some(LogicalType::Time {
@@ -320,8 +320,9 @@ fn time(first: &str, second: &str) -> Option<LogicalType>
     })
 }
 
+#[tactic(auto, using(crate::proofs::Payloads::no_timestamp))]
 fn timestamp(first: &str, second: &str) -> Option<LogicalType>
-    ensures read { MatchOption result ((x : LogicalType) → PayloadSpelled (codes "timestamp") first.now second.now x → ⊥) (λ x. PayloadSpelled (codes "timestamp") first.now second.now x) }
+    ensures read { Read (PayloadSpelled (codes "timestamp") first.now second.now) result }
 {
     let (clock, unit) = both::<Clock, TimeUnit>(first, second)?;
     Some(LogicalType::Timestamp {
@@ -331,7 +332,7 @@ fn timestamp(first: &str, second: &str) -> Option<LogicalType>
 }
 
 fn payload(kind: &str, first: &str, second: &str) -> Option<LogicalType>
-    ensures read { MatchOption result ((x : LogicalType) → PayloadSpelled kind.now first.now second.now x → ⊥) (λ x. PayloadSpelled kind.now first.now second.now x) }
+    ensures read { Read (PayloadSpelled kind.now first.now second.now) result }
 {
     match kind {
         "decimal" => decimal(first, second),
@@ -343,8 +344,9 @@ fn payload(kind: &str, first: &str, second: &str) -> Option<LogicalType>
 }
 
 // A logical type that has numbers or words of its own.
+#[tactic(auto, using(crate::proofs::Payloads::of_parts))]
 fn logical_of_parts(word: &str) -> Option<LogicalType>
-    ensures read { MatchOption result ((x : LogicalType) → SpelledInParts word.now x → ⊥) (λ x. SpelledInParts word.now x) }
+    ensures read { Read (SpelledInParts word.now) result }
 {
     let (kind, first, second) = parts(word)?;
     payload(kind, first, second)

@@ -11,12 +11,9 @@ pub const FLAG: Leaf = Leaf {
     logical: None,
 };
 
-// The number of a refusal, 0 where the call was accepted.
-pub fn refused<T: Drop>(answer: Result<T, Refusal>) -> u8 {
-    match answer {
-        Ok(_) => 0,
-        Err(refusal) => refusal.number(),
-    }
+// The number of a refusal, if the call was refused.
+pub fn refused<T: Drop>(answer: Result<T, Refusal>) -> Option<u8> {
+    answer.err().map(Refusal::number)
 }
 
 #[test]
@@ -27,28 +24,25 @@ fn most_elements(rt: HostRuntime) -> Result<(), Fail> {
     let Ok(mut draft) = Draft::begin(rows, names, b"r", None) else {
         return Err(Fail::new("begin"));
     };
-    let mut accepted: usize = 0;
-    for _ in 0..4096 {
-        if refused(draft.add(rows, names, b"", Repetition::Required, FLAG, None)) == 0 {
-            accepted = accepted.saturating_add(1);
-        }
-    }
+    let accepted = (0..4096)
+        .filter(|_| draft
+            .add(rows, names, b"", Repetition::Required, FLAG, None)
+            .is_ok())
+        .count();
     assert_eq!(rt; accepted, 4095);
     assert_eq!(rt;
         refused(draft.add(rows, names, b"", Repetition::Required, FLAG, None)),
-        1
+        Some(1)
     );
     assert_eq!(rt;
         refused(draft.open(rows, names, b"", Repetition::Required, None, None,)),
-        1
+        Some(1)
     );
-    match draft.finish(rows, names) {
-        Ok(schema) => {
-            assert_eq!(rt; schema.elements(), 4096);
-            Ok(())
-        },
-        Err(_) => Err(Fail::new("finish")),
-    }
+    let Ok(schema) = draft.finish(rows, names) else {
+        return Err(Fail::new("finish"));
+    };
+    assert_eq!(rt; schema.elements(), 4096);
+    Ok(())
 }
 
 #[test]
@@ -57,11 +51,11 @@ fn full_memories(rt: HostRuntime) -> Result<(), Fail> {
     let mut names = [7; 4];
     assert_eq!(rt;
         refused(Draft::begin(&mut elements[0..0], &mut names, b"", None)),
-        1
+        Some(1)
     );
     assert_eq!(rt;
         refused(Draft::begin(&mut elements, &mut names, b"12345", None)),
-        3
+        Some(3)
     );
     assert_eq!(rt; names, [7, 7, 7, 7]);
     let Ok(mut draft) = Draft::begin(&mut elements, &mut names, b"ab", Some(-3)) else {
@@ -76,7 +70,7 @@ fn full_memories(rt: HostRuntime) -> Result<(), Fail> {
             FLAG,
             None,
         )),
-        3
+        Some(3)
     );
     assert_eq!(rt;
         refused(draft.add(
@@ -87,7 +81,7 @@ fn full_memories(rt: HostRuntime) -> Result<(), Fail> {
             FLAG,
             None,
         )),
-        0
+        None
     );
     assert_eq!(rt; names, *b"abxy");
     // the element memory comes before the name memory
@@ -100,7 +94,7 @@ fn full_memories(rt: HostRuntime) -> Result<(), Fail> {
             FLAG,
             None,
         )),
-        1
+        Some(1)
     );
     // shorter memory than is in use comes first of all
     assert_eq!(rt;
@@ -112,7 +106,7 @@ fn full_memories(rt: HostRuntime) -> Result<(), Fail> {
             FLAG,
             None,
         )),
-        7
+        Some(7)
     );
     assert_eq!(rt;
         refused(draft.add(
@@ -123,7 +117,7 @@ fn full_memories(rt: HostRuntime) -> Result<(), Fail> {
             FLAG,
             None,
         )),
-        7
+        Some(7)
     );
     assert_eq!(rt; elements[0].field_id, Some(-3));
     assert_eq!(rt; elements[1].depth, 1);
@@ -141,26 +135,22 @@ fn deepest(rt: HostRuntime) -> Result<(), Fail> {
     for _ in 0..64 {
         assert_eq!(rt;
             refused(draft.open(rows, names, b"", Repetition::Optional, None, None,)),
-            0
+            None
         );
     }
     assert_eq!(rt;
         refused(draft.add(rows, names, b"", Repetition::Required, FLAG, None)),
-        2
+        Some(2)
     );
-    assert_eq!(rt; refused(draft.close()), 0);
+    assert_eq!(rt; refused(draft.close()), None);
     assert_eq!(rt;
         refused(draft.add(rows, names, b"", Repetition::Required, FLAG, None)),
-        0
+        None
     );
-    let draft = match draft.finish(rows, names) {
-        Ok(_) => return Err(Fail::new("a group is open")),
-        Err(back) => {
-            let (draft, refusal) = back;
-            assert_eq!(rt; refusal.number(), 6);
-            draft
-        }
+    let Err((draft, refusal)) = draft.finish(rows, names) else {
+        return Err(Fail::new("a group is open"));
     };
+    assert_eq!(rt; refusal.number(), 6);
     assert_eq!(rt; draft.open_groups(), 64);
     Ok(())
 }

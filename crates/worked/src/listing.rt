@@ -1,15 +1,8 @@
 // The column listing at its edges.
 use crate::drafting::{FLAG, refused};
-use columns::{Column, PathRecord, list};
+use columns::{Column, PathPlace, PathRecord, list};
 use schema::{Annotation, Draft, Element, Refusal, Repetition, Schema};
 use std::test::Fail;
-
-fn finish(draft: Draft, elements: &mut [Element], names: &[u8]) -> Result<Schema, Refusal> {
-    match draft.finish(elements, names) {
-        Ok(schema) => Ok(schema),
-        Err((_, refusal)) => Err(refusal),
-    }
-}
 
 // A map of lists of maps: m (optional MAP), e (repeated), key, value (optional LIST), l (repeated), element (optional
 // MAP), f (repeated), k, v (optional); and a repeated leaf at the root.
@@ -49,15 +42,23 @@ fn nested(elements: &mut [Element], names: &mut [u8]) -> Result<Schema, Refusal>
         draft.close()?;
     }
     draft.add(elements, names, b"last", Repetition::Repeated, FLAG, None)?;
-    finish(draft, elements, names)
+    draft
+        .finish(elements, names)
+        .map_err(|(_, refusal)| refusal)
 }
 
-fn is(column: Column, element: usize, rep: u16, def: u16, repeated: u16, root: usize) -> bool {
-    column.element == element
-        && column.max_rep_level == rep
-        && column.max_def_level == def
-        && column.repeated_def_level == repeated
-        && column.root == root
+// A column of three levels, and the place of its path.
+fn column(element: usize, levels: [u16; 3], root: usize, path: [usize; 2]) -> Column {
+    let [max_rep_level, max_def_level, repeated_def_level] = levels;
+    let [start, length] = path;
+    Column {
+        element,
+        max_rep_level,
+        max_def_level,
+        repeated_def_level,
+        root,
+        path: PathPlace { start, length },
+    }
 }
 
 #[test]
@@ -79,19 +80,22 @@ fn nestings(rt: HostRuntime) -> Result<(), Fail> {
         &mut walked,
     );
     assert_eq!(rt; answer.ok(), Some(4));
-    let [key, k, v, last, none] = columns;
-    assert!(rt; is(key, 3, 1, 2, 2, 0));
-    assert!(rt; is(k, 8, 3, 6, 6, 0));
-    assert!(rt; is(v, 9, 3, 7, 6, 0));
-    assert!(rt; is(last, 10, 1, 1, 1, 1));
-    assert!(rt; is(none, 0, 0, 0, 0, 0));
+    assert_eq!(rt;
+        columns,
+        [
+            column(3, [1, 2, 2], 0, [0, 3]),
+            column(8, [3, 6, 6], 0, [3, 7]),
+            column(9, [3, 7, 6], 0, [10, 7]),
+            column(10, [1, 1, 1], 1, [17, 1]),
+            Column::EMPTY,
+        ]
+    );
     assert_eq!(rt;
         paths,
         [
             1, 2, 3, 1, 2, 4, 5, 6, 7, 8, 1, 2, 4, 5, 6, 7, 9, 10, 0, 0, 0, 0,
         ]
     );
-    assert_eq!(rt; v.path.start, 10);
     assert_eq!(rt; walked.len, 0);
     Ok(())
 }
@@ -117,11 +121,11 @@ fn tables_too_short(rt: HostRuntime) {
     let columns: &mut [Column] = &mut [Column::EMPTY; 4];
     let paths: &mut [usize] = &mut [9; 18];
     let mut walked = PathRecord::EMPTY;
-    assert_eq!(rt; refused(listed(columns, paths, &mut walked, false)), 0);
+    assert_eq!(rt; refused(listed(columns, paths, &mut walked, false)), None);
     // one short: 23 for the path numbers, and everything is empty
     assert_eq!(rt;
         refused(listed(columns, &mut paths[0..17], &mut walked, false)),
-        23
+        Some(23)
     );
     assert_eq!(rt; columns[0].element, 0);
     assert_eq!(rt; paths[0], 0);
@@ -129,7 +133,7 @@ fn tables_too_short(rt: HostRuntime) {
     // 9 for the columns
     assert_eq!(rt;
         refused(listed(&mut columns[0..3], paths, &mut walked, false)),
-        9
+        Some(9)
     );
     assert_eq!(rt; paths[17], 0);
 }
@@ -141,11 +145,14 @@ fn record_not_empty(rt: HostRuntime) {
     let mut walked = PathRecord::EMPTY;
     walked.len = 1;
     walked.numbers[0] = 5;
-    assert_eq!(rt; refused(listed(columns, paths, &mut walked, false)), 9);
+    assert_eq!(rt;
+        refused(listed(columns, paths, &mut walked, false)),
+        Some(9)
+    );
     assert_eq!(rt; walked.len, 1);
     assert_eq!(rt; walked.numbers[0], 5);
     // memory that is not the schema's comes before the tables
-    assert_eq!(rt; refused(listed(columns, paths, &mut walked, true)), 7);
+    assert_eq!(rt; refused(listed(columns, paths, &mut walked, true)), Some(7));
 }
 
 #[test]
@@ -159,7 +166,7 @@ fn root_alone_and_deepest(rt: HostRuntime) -> Result<(), Fail> {
     let Ok(draft) = Draft::begin(rows, names, b"", None) else {
         return Err(Fail::new("begin"));
     };
-    let Ok(alone) = finish(draft, rows, names) else {
+    let Ok(alone) = draft.finish(rows, names) else {
         return Err(Fail::new("finish"));
     };
     let answer = list(&alone, rows, names, columns, paths, &mut walked);
@@ -170,22 +177,22 @@ fn root_alone_and_deepest(rt: HostRuntime) -> Result<(), Fail> {
     for _ in 0..63 {
         assert_eq!(rt;
             refused(draft.open(rows, names, b"", Repetition::Repeated, None, None,)),
-            0
+            None
         );
     }
     assert_eq!(rt;
         refused(draft.add(rows, names, b"", Repetition::Optional, FLAG, None)),
-        0
+        None
     );
     for _ in 0..63 {
-        assert_eq!(rt; refused(draft.close()), 0);
+        assert_eq!(rt; refused(draft.close()), None);
     }
-    let Ok(deep) = finish(draft, rows, names) else {
+    let Ok(deep) = draft.finish(rows, names) else {
         return Err(Fail::new("finish"));
     };
     let answer = list(&deep, rows, names, columns, paths, &mut walked);
     assert_eq!(rt; answer.ok(), Some(1));
-    assert!(rt; is(columns[0], 64, 63, 64, 63, 0));
+    assert_eq!(rt; columns[0], column(64, [63, 64, 63], 0, [0, 64]));
     assert_eq!(rt; paths[63], 64);
     Ok(())
 }
@@ -204,10 +211,10 @@ fn most_leaves(rt: HostRuntime) -> Result<(), Fail> {
     for _ in 0..4095 {
         assert_eq!(rt;
             refused(draft.add(rows, names, b"", Repetition::Optional, FLAG, None)),
-            0
+            None
         );
     }
-    let Ok(schema) = finish(draft, rows, names) else {
+    let Ok(schema) = draft.finish(rows, names) else {
         return Err(Fail::new("finish"));
     };
     let mut walked = PathRecord::EMPTY;
@@ -216,11 +223,9 @@ fn most_leaves(rt: HostRuntime) -> Result<(), Fail> {
     let answer = list(&schema, rows, names, table, numbers, &mut walked);
     assert_eq!(rt; answer.ok(), Some(4095));
     assert_eq!(rt; numbers.get(4094).copied(), Some(4095));
-    match table.get(4094) {
-        Some(last) => {
-            assert!(rt; is(*last, 4095, 0, 1, 0, 4094));
-            Ok(())
-        },
-        None => Err(Fail::new("no last column")),
-    }
+    assert_eq!(rt;
+        table.last().copied(),
+        Some(column(4095, [0, 1, 0], 4094, [4094, 1]))
+    );
+    Ok(())
 }

@@ -16,10 +16,9 @@ fn draft(elements: &mut [Element], names: &mut [u8]) -> Result<Draft, Refusal> {
 }
 
 fn finished(elements: &mut [Element], names: &mut [u8]) -> Result<Schema, Refusal> {
-    match draft(elements, names)?.finish(elements, names) {
-        Ok(schema) => Ok(schema),
-        Err((_, refusal)) => Err(refusal),
-    }
+    draft(elements, names)?
+        .finish(elements, names)
+        .map_err(|(_, refusal)| refusal)
 }
 
 // Whether the check accepts the rows with one of them changed.
@@ -110,28 +109,22 @@ fn tampered_records(rt: HostRuntime) -> Result<(), Fail> {
 fn tampered_drafts(rt: HostRuntime) -> Result<(), Fail> {
     let mut elements = [Element::EMPTY; 4];
     let mut names = [0; 14];
-    assert_eq!(rt; refused(finished(&mut elements, &mut names)), 0);
+    assert_eq!(rt; refused(finished(&mut elements, &mut names)), None);
     let Ok(drafted) = draft(&mut elements, &mut names) else {
         return Err(Fail::new("draft"));
     };
     // sizes are not looked at: they are filled in
     elements[1].size = 9;
     elements[3].depth = 3;
-    let drafted = match drafted.finish(&mut elements, &names) {
-        Ok(_) => return Err(Fail::new("too deep below a leaf")),
-        Err(back) => {
-            let (drafted, refusal) = back;
-            assert_eq!(rt; refusal.number(), 7);
-            drafted
-        }
+    let Err((drafted, refusal)) = drafted.finish(&mut elements, &names) else {
+        return Err(Fail::new("too deep below a leaf"));
     };
+    assert_eq!(rt; refusal.number(), 7);
     assert_eq!(rt; elements[1].size, 9);
     elements[3].depth = 1;
-    match drafted.finish(&mut elements, &names) {
-        Ok(_) => {
-            assert_eq!(rt; elements[1].size, 2);
-            Ok(())
-        },
-        Err(_) => Err(Fail::new("finish")),
-    }
+    let Ok(_) = drafted.finish(&mut elements, &names) else {
+        return Err(Fail::new("finish"));
+    };
+    assert_eq!(rt; elements[1].size, 2);
+    Ok(())
 }

@@ -8,7 +8,7 @@ pub struct PathPlace {
 }
 
 // One leaf of a schema.
-#[derive(Clone, Copy)]
+#[derive(Clone, Copy, PartialEq, Eq, Debug)]
 pub struct Column {
     // the leaf's element number
     pub element: usize,

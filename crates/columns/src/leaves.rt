@@ -1,9 +1,9 @@
 // The listing of a finished schema's leaves.
-ghost use Rattle.std.specs.Prelude.{◌≡◌, ℕ, ◌+◌, ◌-◌, ◌<◌, ◌≤◌, true, List, [], ◌∷◌, ◌++◌, length, take, replicate, if◌then◌else◌, nat_eq};
+ghost use Rattle.std.specs.Prelude.{◌≡◌, ℕ, ◌+◌, ◌<◌, ◌≤◌, true, List, [], ◌∷◌, ◌++◌, length, take, if◌then◌else◌, nat_eq};
 ghost use Rattle.schema.specs.Posts.{memory_kept};
 ghost use Rattle.schema.specs.Rows.{IsFinished};
 ghost use Rattle.columns.specs.Levels.{repeats, may_miss, row_at, path_of, root_of, leaves_of};
-ghost use Rattle.columns.specs.Listing.{walked_path, Restored, empty_column, filled, Listing, LevelsBounded, ListLaw};
+ghost use Rattle.columns.specs.Listing.{walked_path, Restored, Listing, LevelsBounded, ListLaw};
 ghost use Rattle.schema.specs.Reach.{Reached, whole};
 ghost use Rattle.schema.specs.Words.{Event};
 ghost use Rattle.columns.specs.Walk.{Appended, Walking, Wrote, leaves_at, leaves_below, Walked};
@@ -46,6 +46,8 @@ impl Levels {
 }
 
 // How much of the caller's tables is used.
+// (It travels beside the tables: of a struct that holds their `&mut` slices, each function would have to say that it leaves
+// them the caller's.)
 #[derive(Clone, Copy)]
 struct Done {
     columns: usize,

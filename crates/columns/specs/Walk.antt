@@ -66,12 +66,3 @@ pub record Walked (kept : Bool) (rows : List Element) (w : PathRecord) (columns 
       (λ d. (d.columns ≡ length (leaves_of rows)) × (d.numbers ≡ length (path_numbers rows (leaves_of rows))) × (d.columns ≤ length columns) × (d.numbers ≤ length paths)
       × (take d.columns columns' ≡ columns_from rows 0 (leaves_of rows)) × (take d.numbers paths' ≡ path_numbers rows (leaves_of rows)))
       (λ _. Unit {0})
-
--- what is used of the tables, nothing where refused
-abbrev pub used_of : Result Done Refusal → Done
-used_of (Ok d) = d
-used_of (Err e) = record { columns = 0; numbers = 0 }
-
-abbrev pub answer_of : Result Done Refusal → Result ℕ Refusal
-answer_of (Ok d) = Ok d.columns
-answer_of (Err e) = Err e

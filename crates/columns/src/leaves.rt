@@ -1,12 +1,12 @@
 // The listing of a finished schema's leaves.
-ghost use Rattle.std.specs.Prelude.{◌≡◌, ℕ, ◌+◌, ◌-◌, ◌<◌, ◌≤◌, true, List, [], ◌∷◌, ◌++◌, length, take, replicate, if◌then◌else◌, nat_eq};
+ghost use Rattle.std.specs.Prelude.{◌≡◌, ℕ, ◌+◌, ◌<◌, ◌≤◌, true, List, [], ◌∷◌, ◌++◌, length, take, if◌then◌else◌, nat_eq};
 ghost use Rattle.schema.specs.Posts.{memory_kept};
 ghost use Rattle.schema.specs.Rows.{IsFinished};
 ghost use Rattle.columns.specs.Levels.{repeats, may_miss, row_at, path_of, root_of, leaves_of};
-ghost use Rattle.columns.specs.Listing.{walked_path, Restored, empty_column, filled, Listing, LevelsBounded, ListLaw};
+ghost use Rattle.columns.specs.Listing.{walked_path, Restored, Listing, LevelsBounded, ListLaw};
 ghost use Rattle.schema.specs.Reach.{Reached, whole};
 ghost use Rattle.schema.specs.Words.{Event};
-ghost use Rattle.columns.specs.Walk.{Appended, Walking, Wrote, leaves_at, leaves_below, Walked, used_of, answer_of};
+ghost use Rattle.columns.specs.Walk.{Appended, Walking, Wrote, leaves_at, leaves_below, Walked};
 
 use crate::column::{Column, PathPlace};
 use crate::record::{PathRecord, enter};
@@ -32,9 +32,8 @@ impl Levels {
     {
         match repetition {
             Some(Repetition::Optional) => Levels {
-                repetition: self.repetition,
                 definition: self.definition + 1,
-                repeated: self.repeated,
+                ..self
             },
             Some(Repetition::Repeated) => Levels {
                 repetition: self.repetition + 1,
@@ -47,10 +46,19 @@ impl Levels {
 }
 
 // How much of the caller's tables is used.
+// (It travels beside the tables: of a struct that holds their `&mut` slices, each function would have to say that it leaves
+// them the caller's.)
 #[derive(Clone, Copy)]
 struct Done {
     columns: usize,
     numbers: usize,
+}
+
+impl Done {
+    const NOTHING: Done = Done {
+        columns: 0,
+        numbers: 0,
+    };
 }
 
 // Writes the column of the leaf that the walk has come to, and its path.
@@ -149,30 +157,20 @@ fn list_children(
     ensures restored { Restored walked.old walked.new }
     ensures wrote { Wrote rows.now (leaves_below rows.now parent) done columns.old paths.old columns.new paths.new result }
 {
-    let tree = FlatTree::new(rows);
     let mut so_far = done;
-    let mut number = 0;
-    let mut next = tree.first_child(parent);
-    while let Some(child) = next {
+    for (number, child) in FlatTree::new(rows).children(parent).enumerate() {
         let root = root_number(parent, number, root);
         so_far = list_element(rows, child, levels, root, walked, columns, paths, so_far)?;
-        number += 1;
-        next = tree.next_sibling(child, parent);
     }
     Ok(so_far)
 }
 
 // How many leaves the rows have.
+#[tactic(auto, using(crate::proofs::Tables::leaves_counted, std::proofs::lemmas::Grind::common_steps))]
 pub fn count_leaves(rows: &[Element]) -> usize
     ensures count { result ≡ length (leaves_of rows.now) }
 {
-    let mut leaves: usize = 0;
-    for i in 0..rows.len() {
-        if !rows[i].kind.is_group() {
-            leaves += 1;
-        }
-    }
-    leaves
+    rows.iter().filter(|row| !row.kind.is_group()).count()
 }
 
 // Walks a finished schema, once the caller's tables have been looked at.
@@ -197,11 +195,7 @@ fn walk_rows(
         definition: 0,
         repeated: 0,
     };
-    let done = Done {
-        columns: 0,
-        numbers: 0,
-    };
-    list_children(rows, 0, levels, 0, walked, columns, paths, done)
+    list_children(rows, 0, levels, 0, walked, columns, paths, Done::NOTHING)
 }
 
 // The same, once the memory has been looked at.
@@ -223,41 +217,6 @@ fn walk(
     walk_rows(&elements[0..count], columns, paths, walked)
 }
 
-fn used(outcome: &Result<Done, Refusal>) -> Done
-    ensures { result ≡ used_of outcome.now }
-{
-    match outcome {
-        Ok(done) => *done,
-        Err(_) => Done {
-            columns: 0,
-            numbers: 0,
-        },
-    }
-}
-
-fn answer(outcome: Result<Done, Refusal>) -> Result<usize, Refusal>
-    ensures { result ≡ answer_of outcome }
-{
-    match outcome {
-        Ok(done) => Ok(done.columns),
-        Err(refusal) => Err(refusal),
-    }
-}
-
-fn clear_columns(columns: &mut [Column], from: usize)
-    requires { from ≤ length columns.old }
-    ensures { columns.new ≡ take from columns.old ++ replicate (length columns.old - from) empty_column }
-{
-    columns[from..].fill(Column::EMPTY);
-}
-
-fn clear_numbers(paths: &mut [usize], from: usize)
-    requires { from ≤ length paths.old }
-    ensures { paths.new ≡ take from paths.old ++ replicate (length paths.old - from) 0 }
-{
-    paths[from..].fill(0);
-}
-
 // Lists the leaves of a finished schema, in order: one column for each, and its path in the path numbers, path after
 // path. Past them columns are empty and numbers 0; refused, they are so throughout. The path record has to be empty,
 // and is left as it was on every way out.
@@ -276,8 +235,8 @@ pub fn list(
     ensures law { (h : List Event) → Reached h (whole schema.now) elements.now names.now → ListLaw h schema.now elements.now names.now walked.old (length columns.old) (length paths.old) result }
 {
     let outcome = walk(schema, elements, names, columns, paths, walked);
-    let done = used(&outcome);
-    clear_columns(columns, done.columns);
-    clear_numbers(paths, done.numbers);
-    answer(outcome)
+    let done = outcome.unwrap_or(Done::NOTHING);
+    columns[done.columns..].fill(Column::EMPTY);
+    paths[done.numbers..].fill(0);
+    outcome.map(|done| done.columns)
 }

@@ -3,6 +3,7 @@ ghost use Rattle.std.specs.Prelude.{◌≡◌, ◌+◌, ◌-◌, ◌<◌, [], �
 ghost use Rattle.columns.specs.Listing.{walked_path};
 
 // The path walked so far is the first `len` of the numbers; what stands past them is free.
+// (No `ArrayVec`: it is not `Copy`, and no constant can hold one, so callers would lose copies and `EMPTY`.)
 #[derive(Clone, Copy)]
 pub struct PathRecord {
     pub numbers: [usize; 64],

@@ -18,8 +18,8 @@ pub fn choose<S: Selection>(
     if chosen.len() < leaves {
         return Err(Refusal::Table);
     }
-    for leaf in 0..leaves {
-        chosen[leaf] = selection.contains(leaf);
+    for (leaf, flag) in chosen[..leaves].iter_mut().enumerate() {
+        *flag = selection.contains(leaf);
     }
     Ok(())
 }

@@ -5,17 +5,6 @@ ghost use Rattle.selection.specs.Flagging.{Flagging, Flag, Flagged, in_accepted}
 
 use schema::Refusal;
 
-// Does what `flag` does; its caller adds the law.
-fn set_flag(flags: &mut [bool], number: usize) -> Result<(), Refusal>
-    ensures { Flag number flags.old result flags.new }
-{
-    if number >= flags.len() {
-        return Err(Refusal::FlagOutside);
-    }
-    flags[number] = true;
-    Ok(())
-}
-
 // Sets one flag; a number outside the flags is refused, and alters nothing.
 // `law`: flags that any flaggings alone changed, some accepted and some refused, this one the last, mean as `Flags` exactly
 // the numbers that they began with and the accepted ones.
@@ -23,5 +12,9 @@ pub fn flag(flags: &mut [bool], number: usize) -> Result<(), Refusal>
     ensures told { Flag number flags.old result flags.new }
     ensures law { (start : List Bool) (h : List Flagging) → Flagged start h flags.old → (n : ℕ) → in_flags flags.new n ≡ union (in_flags start) (in_accepted (record { number = number; accepted = is_ok result } ∷ h)) n }
 {
-    set_flag(flags, number)
+    if number >= flags.len() {
+        return Err(Refusal::FlagOutside);
+    }
+    flags[number] = true;
+    Ok(())
 }

@@ -16,14 +16,7 @@ mod tests {
     use super::*;
     use columns::Column;
     use schema::Refusal;
-
-    // The refusal's number; 0 where there is none.
-    fn number(r: Result<(), Refusal>) -> u8 {
-        match r {
-            Ok(()) => 0,
-            Err(refusal) => refusal.number(),
-        }
-    }
+    use std::array;
 
     fn below(root: usize) -> Column {
         Column {
@@ -32,22 +25,9 @@ mod tests {
         }
     }
 
-    // A choice at run time: all leaves, those of the flags, or those of the flagged roots.
-    fn pick<'c, 'f>(kind: u8, columns: &'c [Column], flags: &'f [bool]) -> Choice<'c, 'f> {
-        match kind {
-            0 => Choice::All,
-            1 => Choice::Leaves(Flags(flags)),
-            _ => Choice::Roots(Roots { columns, flags }),
-        }
-    }
-
     // Six answers, from leaf 0 on.
     fn six<S: Selection>(selection: &S) -> [bool; 6] {
-        let mut answers = [false; 6];
-        for leaf in 0..6 {
-            answers[leaf] = selection.contains(leaf);
-        }
-        answers
+        array::from_fn(|leaf| selection.contains(leaf))
     }
 
     // The flags end after number 3, and the columns after leaf 4; leaf 2 lies below a root past the flags.
@@ -68,19 +48,19 @@ mod tests {
         let both = Both(leaves, roots);
         assert_eq!(rt; six(&both), [false, false, false, true, false, false]);
         assert_eq!(rt; six(&Both(Either(both, All), roots)), six(&roots));
-        assert_eq!(rt; six(&pick(0, &columns, &flags)), six(&All));
-        assert_eq!(rt; six(&pick(1, &columns, &flags)), six(&leaves));
-        assert_eq!(rt; six(&pick(2, &columns, &flags)), six(&roots));
+        assert_eq!(rt; six(&Choice::All), six(&All));
+        assert_eq!(rt; six(&Choice::Leaves(leaves)), six(&leaves));
+        assert_eq!(rt; six(&Choice::Roots(roots)), six(&roots));
     }
 
     #[test]
     fn flags_numbers(rt: HostRuntime) {
         let mut flags = [false; 3];
-        assert_eq!(rt; number(flag(&mut flags, 2)), 0);
-        assert_eq!(rt; number(flag(&mut flags, 3)), 24);
+        assert_eq!(rt; flag(&mut flags, 2), Ok(()));
+        assert_eq!(rt; flag(&mut flags, 3).map_err(Refusal::number), Err(24));
         assert_eq!(rt; flags, [false, false, true]);
-        assert_eq!(rt; number(flag(&mut flags, 0)), 0);
-        assert_eq!(rt; number(flag(&mut flags, 2)), 0);
+        assert_eq!(rt; flag(&mut flags, 0), Ok(()));
+        assert_eq!(rt; flag(&mut flags, 2), Ok(()));
         assert_eq!(rt; flags, [true, false, true]);
     }
 
@@ -89,12 +69,15 @@ mod tests {
     fn keeps_answers(rt: HostRuntime) {
         let leaves = Flags(&[true, false, true, true]);
         let mut chosen = [false, true, true];
-        assert_eq!(rt; number(choose(&leaves, 3, &mut chosen)), 0);
+        assert_eq!(rt; choose(&leaves, 3, &mut chosen), Ok(()));
         assert_eq!(rt; chosen, [true, false, true]);
-        assert_eq!(rt; number(choose(&leaves, 4, &mut chosen)), 9);
+        assert_eq!(rt;
+            choose(&leaves, 4, &mut chosen).map_err(Refusal::number),
+            Err(9)
+        );
         assert_eq!(rt; chosen, [false; 3]);
         let mut more = [true; 6];
-        assert_eq!(rt; number(choose(&leaves, 3, &mut more)), 0);
+        assert_eq!(rt; choose(&leaves, 3, &mut more), Ok(()));
         assert_eq!(rt; more, [true, false, true, false, false, false]);
     }
 }

@@ -51,14 +51,14 @@ impl<'c, 'f> Selection for Roots<'c, 'f> {
     ghost chosen = { λ s. in_roots s.columns.now s.flags.now };
 
     fn contains(&self, leaf: usize) -> bool {
-        match self.columns.get(leaf) {
-            Some(column) => Flags(self.flags).contains(column.root),
-            None => false,
-        }
+        self.columns
+            .get(leaf)
+            .is_some_and(|column| Flags(self.flags).contains(column.root))
     }
 }
 
 // The leaves of one selection or the other. `either` says so of each number.
+// (`Both` is as long: one type over the two operations would hide `||` and `&&` in a parameter.)
 #[derive(Drop)]
 pub struct Either<P, Q>(pub P, pub Q);
 

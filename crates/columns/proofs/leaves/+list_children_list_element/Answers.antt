@@ -1,13 +1,10 @@
-use Rattle.std.proofs.Common.{◌≡◌, ℕ, zero, suc, ◌+◌, ◌-◌, ◌*◌, ◌<◌, ◌≤◌, cond, eqb, List, [], ◌∷◌, ◌++◌, length, Some, Ok, Option, sym, refl, ap, ◌∙◌, subst, arith, rules}
+use Rattle.std.proofs.Common.{◌≡◌, ℕ, zero, suc, ◌+◌, ◌-◌, ◌*◌, ◌<◌, ◌≤◌, cond, eqb, List, [], ◌∷◌, ◌++◌, length, drop, Some, Ok, sym, refl, ap, ◌∙◌, subst, add-one, arith, rules}
 use Rattle.std.specs.List.{slice_get}
-use Rattle.std.specs.Option.{SomeIff}
 use Rattle.std.proofs.lemmas.List.{length-append}
 use Rattle.std.proofs.lemmas.Result.{err_from_is_err_and}
 use Rattle.std.proofs.lemmas.Bool.{cond-false, ne_eqb}
-use Rattle.tree.specs.Forest.{alone, size_at, children, HasChild, HasNext}
-use Rattle.tree.specs.Walk.{Walk}
-use Rattle.tree.proofs.Trees.{ends_within, first_in_tree, next_in_tree}
-use Rattle.tree.proofs.Walks.{walk_none, walk_more}
+use Rattle.tree.specs.Forest.{Forest, Lists, alone, size_at, children}
+use Rattle.tree.proofs.Trees.{drop_next, ends_within}
 use Rattle.tree.proofs.Depths.{child_of}
 use Rattle.schema.specs.declared.element.Element.{Element}
 use Rattle.schema.specs.Elements.{element_span}
@@ -23,89 +20,105 @@ use Rattle.columns.proofs.leaves.+list_children_list_element.Goals as goal
 -- The children of a parent.
 
 -- where the loop has come: the child that is next, in the tree
-record Next (rows : List Element) (bytes : ℕ) (fin : IsFinished bytes rows) (p n c : ℕ) : Type 0 where
+record Next (rows : List Element) (bytes : ℕ) (fin : IsFinished bytes rows) (p n c : ℕ) (rest rest' : List ℕ) : Type 0 where
   pub child : slice_get (children (alone fin.0) p) n ≡ Some c
   pub within : c < length rows
   pub after : p < c
   pub ends : c + size_at element_span rows c ≤ p + size_at element_span rows p
   pub some : 0 < size_at element_span rows c
   pub path : path_of rows c ≡ path_of rows p ++ c ∷ []
+  pub here : place_of rows p (slice_get rest 0) ≡ c
+  pub next : place_of rows p (slice_get rest' 0) ≡ c + size_at element_span rows c
 
-next_child : (rows : List Element) (bytes : ℕ) (fin : IsFinished bytes rows) (p n c : ℕ) (next : Option ℕ) → p < length rows → Walk element_span rows p n next → next ≡ Some c → Next rows bytes fin p n c
-next_child rows bytes fin p n c next h w e =
-    let child : slice_get (children (alone fin.0) p) n ≡ Some c = sym (w.comes (alone fin.0) fin.2).1 ∙ e in
-    let v : Walk element_span rows p n (Some c) = subst (Walk element_span rows p n) e w in
-    let in' : c < length rows = v.within.1 in
+-- the first of what is left of a list
+first_left : (xs : List ℕ) (n : ℕ) → slice_get (drop n xs) 0 ≡ slice_get xs n
+first_left [] zero = refl
+first_left [] (suc n) = refl
+first_left (x ∷ xs) zero = refl
+first_left (x ∷ xs) (suc n) = first_left xs n
+
+next_child : (rows : List Element) (bytes : ℕ) (fin : IsFinished bytes rows) (p n c : ℕ) (rest rest' : List ℕ) → p < length rows
+    → ((f : Forest Element) → Lists element_span f rows → rest ≡ drop n (children f p)) → rest ≡ c ∷ rest' → Next rows bytes fin p n c rest rest'
+next_child rows bytes fin p n c rest rest' h comes step =
+    let xs = children (alone fin.0) p in
+    let left = sym (comes (alone fin.0) fin.2) ∙ step in
+    let child : slice_get xs n ≡ Some c = sym (first_left xs n) ∙ ap (λ ys. slice_get ys 0) left in
+    let place = next_place bytes rows fin p n c h child in
+    let below = child_of element_span (alone fin.0) rows fin.2 p n c child in
+    let within : c < length rows = omega (arith, below.1, (ends_within element_span (alone fin.0) rows fin.2 p h).1) in
+    let on : slice_get rest' 0 ≡ slice_get xs (n + 1) = ap (λ ys. slice_get ys 0) (sym (drop_next xs n c rest' left)) ∙ first_left xs (suc n) ∙ ap (slice_get xs) (sym (add-one n)) in
     record {
       child = child;
-      within = in';
-      after = (child_of element_span (alone fin.0) rows fin.2 p n c child).0;
-      ends = (next_place bytes rows fin p n c h child).1;
-      some = (ends_within element_span (alone fin.0) rows fin.2 c in').0;
-      path = path_child bytes rows fin p n c child h in';
+      within = within;
+      after = below.0;
+      ends = place.1;
+      some = (ends_within element_span (alone fin.0) rows fin.2 c within).0;
+      path = path_child bytes rows fin p n c child h within;
+      here = ap (λ ys. place_of rows p (slice_get ys 0)) step;
+      next = ap (place_of rows p) on ∙ place.0;
     }
 
-pub list_children-loop-next-init : goal.list_children-loop-next-init
-list_children-loop-next-init t c =
+pub list_children-loop-number-init : goal.list_children-loop-number-init
+list_children-loop-number-init t c =
     let rows = c.args.rows.now in
     let p = c.args.parent in
     let bytes = c.requires.walking.finished.0 in
     let fin = c.requires.walking.finished.1 in
-    let r = c.first_child-next.result in
-    let told : SomeIff r (HasChild element_span rows p) (p + 1) = subst (λ xs. SomeIff r (HasChild element_span xs p) (p + 1)) c.new-tree.ensures.rows c.first_child-next.ensures.by_size in
-    let place : place_of rows p r ≡ p + 1 =
-    ap (place_of rows p) (first_in_tree element_span (alone fin.0) rows fin.2 p r told) ∙ first_place bytes rows fin p c.requires.parent in
-    let ends = ends_within element_span (alone fin.0) rows fin.2 p c.requires.parent in
-    let none : leaves_in rows (p + 1) (place_of rows p r - (p + 1)) ≡ [] = ap (leaves_in rows (p + 1)) (let z : place_of rows p r - (p + 1) ≡ 0 = omega (arith, place) in z) in (
-      walk_none element_span rows p r told,
-      restored_same c.args.walked.now,
-      (omega (arith, place), omega (arith, place, ends.0)),
-      (λ e. sym (ap (roots_before rows) (place ∙ ap (λ n. n + 1) e))),
-      wrote_none rows c.args.done c.args.columns.now c.args.paths.now c.requires.walking.numbers (leaves_in rows (p + 1) (place_of rows p r - (p + 1))) none,
-    )
+    let it = c.into_iter-number-iterator.result in
+    let count : it.count ≡ 0 = cc in
+    let comes : (f : Forest Element) → Lists element_span f rows → it.iter ≡ children f p =
+    λ f l. (let e : it.iter ≡ c.children.result = cc in e) ∙ c.children.ensures.in_tree f (subst (Lists element_span f) (sym c.new.ensures.rows) l) in
+    let place : place_of rows p (slice_get it.iter 0) ≡ p + 1 = ap (λ ys. place_of rows p (slice_get ys 0)) (comes (alone fin.0) fin.2) ∙ first_place bytes rows fin p c.requires.parent in
+    let none : leaves_in rows (p + 1) (place_of rows p (slice_get it.iter 0) - (p + 1)) ≡ [] = ap (leaves_in rows (p + 1)) (let z : place_of rows p (slice_get it.iter 0) - (p + 1) ≡ 0 = omega (arith, place) in z) in
+    record {
+      comes = λ f l. comes f l ∙ ap (λ n. drop n (children f p)) (sym count);
+      restored = restored_same c.args.walked.now;
+      after = omega (arith, place);
+      ends = omega (arith, place, (ends_within element_span (alone fin.0) rows fin.2 p c.requires.parent).0);
+      roots = λ e. count ∙ sym (ap (roots_before rows) (place ∙ ap (λ n. n + 1) e));
+      wrote = wrote_none rows c.args.done c.args.columns.now c.args.paths.now c.requires.walking.numbers (leaves_in rows (p + 1) (place_of rows p (slice_get it.iter 0) - (p + 1))) none;
+    }
 
 -- the root number of a child
-child_root : (rows : List Element) (bytes : ℕ) (fin : IsFinished bytes rows) (p n c root r : ℕ) → p < length rows → Next rows bytes fin p n c → r ≡ cond (eqb p 0) n root
+child_root : (rows : List Element) (bytes : ℕ) (fin : IsFinished bytes rows) (p n c root r : ℕ) (rest rest' : List ℕ) → p < length rows → Next rows bytes fin p n c rest rest' → r ≡ cond (eqb p 0) n root
     → (p ≡ 0 → n ≡ roots_before rows c) → (0 < p → root ≡ root_of rows (path_of rows p)) → r ≡ root_of rows (path_of rows c)
-child_root rows bytes fin zero n c root r h x e top deep = e ∙ top refl ∙ sym (ap (root_of rows) x.path)
-child_root rows bytes fin (suc p) n c root r h x e top deep =
+child_root rows bytes fin zero n c root r rest rest' h x e top deep = e ∙ top refl ∙ sym (ap (root_of rows) x.path)
+child_root rows bytes fin (suc p) n c root r rest rest' h x e top deep =
     e ∙ cond-false (eqb (suc p) 0) n root (ne_eqb (suc p) 0 (λ z. omega (arith, z))) ∙ deep (omega arith)
     ∙ sym (ap (root_of rows) x.path ∙ root_push rows (path_of rows (suc p)) c (omega (arith, path_long bytes rows fin (suc p) h, (depth_within bytes rows fin p h).0)))
-
--- the place of the child that is next
-at_child : (rows : List Element) (p c : ℕ) (next : Option ℕ) → next ≡ Some c → place_of rows p next ≡ c
-at_child rows p c next e = ap (place_of rows p) e
 
 pub list_children-list_element-requires : goal.list_children-list_element-requires
 list_children-list_element-requires t c =
     let rows = c.args.rows.now in
     let p = c.args.parent in
     let k = c.in-Some.child in
+    let it = c.loop-number.number-iterator in
+    let had = c.loop-number.invariant in
+    let step = c.in-Some.ensures.steps in
     let bytes = c.requires.walking.finished.0 in
     let fin = c.requires.walking.finished.1 in
-    let x = next_child rows bytes fin p c.loop-next.number k c.loop-next.next c.requires.parent c.loop-next.invariant.0 c.in-Some.is in
-    let at : place_of rows p c.loop-next.next ≡ k = at_child rows p k c.loop-next.next c.in-Some.is in
-    let same : walked_path c.loop-next.walked ≡ path_of rows p = c.loop-next.invariant.1.path ∙ c.requires.walking.path in
+    let x = next_child rows bytes fin p it.count k it.iter c.next.new.self.iter c.requires.parent had.comes step.0 in
+    let same : walked_path c.loop-number.walked ≡ path_of rows p = had.restored.path ∙ c.requires.walking.path in
     let small : 2 * size_at element_span rows k + 1 < 2 * size_at element_span rows p = omega (arith, x.after, x.ends) in
     let split = split_at rows p k (size_at element_span rows k) (omega (arith, x.after)) x.ends in
-    let wrote : Wrote rows (leaves_in rows (p + 1) (k - (p + 1))) c.args.done c.args.columns.now c.args.paths.now c.loop-next.columns c.loop-next.paths (Ok c.loop-next.so_far) =
-    subst (λ m. Wrote rows (leaves_in rows (p + 1) (m - (p + 1))) c.args.done c.args.columns.now c.args.paths.now c.loop-next.columns c.loop-next.paths (Ok c.loop-next.so_far)) at c.loop-next.invariant.4 in (
+    let wrote : Wrote rows (leaves_in rows (p + 1) (k - (p + 1))) c.args.done c.args.columns.now c.args.paths.now c.loop-number.columns c.loop-number.paths (Ok c.loop-number.so_far) =
+    subst (λ m. Wrote rows (leaves_in rows (p + 1) (m - (p + 1))) c.args.done c.args.columns.now c.args.paths.now c.loop-number.columns c.loop-number.paths (Ok c.loop-number.so_far)) x.here had.wrote in (
       (let m = c.decreases in omega (arith, m, small)),
       (
         record {
           finished = (bytes, fin);
           path = refl;
-          long = c.loop-next.invariant.1.len ∙ c.requires.walking.long ∙ ap length (sym same);
+          long = had.restored.len ∙ c.requires.walking.long ∙ ap length (sym same);
           levels = subst (λ is. LevelsOf rows is c.args.levels) (sym same) c.requires.walking.levels;
-          room = omega (arith, wrote.0, c.requires.walking.room, c.loop-next.auto.columns, ap length split, length-append (leaves_in rows (p + 1) (k - (p + 1)) ++ leaves_at rows k) (leaves_in rows (k + size_at element_span rows k) ((p + size_at element_span rows p) - (k + size_at element_span rows k))), length-append (leaves_in rows (p + 1) (k - (p + 1))) (leaves_at rows k));
-          numbers = omega (arith, wrote.2, c.loop-next.auto.paths);
+          room = omega (arith, wrote.0, c.requires.walking.room, c.loop-number.auto.columns, ap length split, length-append (leaves_in rows (p + 1) (k - (p + 1)) ++ leaves_at rows k) (leaves_in rows (k + size_at element_span rows k) ((p + size_at element_span rows p) - (k + size_at element_span rows k))), length-append (leaves_in rows (p + 1) (k - (p + 1))) (leaves_at rows k));
+          numbers = omega (arith, wrote.2, c.loop-number.auto.paths);
         },
         (
           x.within,
           (
             x.path ∙ ap (λ is. is ++ k ∷ []) (sym same),
-            child_root rows bytes fin p c.loop-next.number k c.args.root c.root_number-root.result c.requires.parent x c.root_number-root.ensures
-                (λ e. c.loop-next.invariant.3 e ∙ ap (roots_before rows) at) c.requires.root,
+            child_root rows bytes fin p it.count k c.args.root c.root_number-root.result it.iter c.next.new.self.iter c.requires.parent x (c.root_number-root.ensures ∙ ap (λ n. cond (eqb p 0) n c.args.root) step.1)
+                (λ e. had.roots e ∙ ap (roots_before rows) x.here) c.requires.root,
           ),
         ),
       ),
@@ -116,47 +129,47 @@ list_children-returns-in_err-so_far t c =
     let rows = c.args.rows.now in
     let p = c.args.parent in
     let k = c.in-Some.child in
-    let bytes = c.requires.walking.finished.0 in
+    let it = c.loop-number.number-iterator in
+    let had = c.loop-number.invariant in
     let fin = c.requires.walking.finished.1 in
-    let x = next_child rows bytes fin p c.loop-next.number k c.loop-next.next c.requires.parent c.loop-next.invariant.0 c.in-Some.is in
-    let at : place_of rows p c.loop-next.next ≡ k = at_child rows p k c.loop-next.next c.in-Some.is in
-    let wrote : Wrote rows (leaves_in rows (p + 1) (k - (p + 1))) c.args.done c.args.columns.now c.args.paths.now c.loop-next.columns c.loop-next.paths (Ok c.loop-next.so_far) =
-    subst (λ m. Wrote rows (leaves_in rows (p + 1) (m - (p + 1))) c.args.done c.args.columns.now c.args.paths.now c.loop-next.columns c.loop-next.paths (Ok c.loop-next.so_far)) at c.loop-next.invariant.4 in
+    let x = next_child rows c.requires.walking.finished.0 fin p it.count k it.iter c.next.new.self.iter c.requires.parent had.comes c.in-Some.ensures.steps.0 in
+    let wrote : Wrote rows (leaves_in rows (p + 1) (k - (p + 1))) c.args.done c.args.columns.now c.args.paths.now c.loop-number.columns c.loop-number.paths (Ok c.loop-number.so_far) =
+    subst (λ m. Wrote rows (leaves_in rows (p + 1) (m - (p + 1))) c.args.done c.args.columns.now c.args.paths.now c.loop-number.columns c.loop-number.paths (Ok c.loop-number.so_far)) x.here had.wrote in
     let e = err_from_is_err_and c.from_residual.result c.from_residual.ensures.1 in
-    let w = wrote_less rows (leaves_in rows (p + 1) (k - (p + 1))) (leaves_at rows k) c.args.done c.loop-next.so_far c.args.columns.now c.args.paths.now c.loop-next.columns c.loop-next.paths c.list_element.new.columns c.list_element.new.paths
-    c.loop-next.auto.paths wrote _ c.in_err-so_far.ensures.wrote (leaves_below rows p) _ (split_at rows p k (size_at element_span rows k) (omega (arith, x.after)) x.ends) in
+    let w = wrote_less rows (leaves_in rows (p + 1) (k - (p + 1))) (leaves_at rows k) c.args.done c.loop-number.so_far c.args.columns.now c.args.paths.now c.loop-number.columns c.loop-number.paths c.list_element.new.columns c.list_element.new.paths
+    c.loop-number.auto.paths wrote _ c.in_err-so_far.ensures.wrote (leaves_below rows p) _ (split_at rows p k (size_at element_span rows k) (omega (arith, x.after)) x.ends) in
     record {
-      restored = restored_on c.args.walked.now c.loop-next.walked c.list_element.new.walked c.loop-next.invariant.1 c.list_element.ensures.restored;
+      restored = restored_on c.args.walked.now c.loop-number.walked c.list_element.new.walked had.restored c.list_element.ensures.restored;
       wrote = rw (e.1, e.2) w;
     }
 
-pub list_children-loop-next-preserved : goal.list_children-loop-next-preserved
-list_children-loop-next-preserved t c =
+pub list_children-loop-number-preserved : goal.list_children-loop-number-preserved
+list_children-loop-number-preserved t c =
     let rows = c.args.rows.now in
     let p = c.args.parent in
     let k = c.in-Some.child in
-    let n = c.loop-next.number in
+    let it = c.loop-number.number-iterator in
+    let rest = c.next.new.self.iter in
+    let had = c.loop-number.invariant in
+    let step = c.in-Some.ensures.steps in
     let bytes = c.requires.walking.finished.0 in
     let fin = c.requires.walking.finished.1 in
-    let x = next_child rows bytes fin p n k c.loop-next.next c.requires.parent c.loop-next.invariant.0 c.in-Some.is in
-    let at : place_of rows p c.loop-next.next ≡ k = at_child rows p k c.loop-next.next c.in-Some.is in
-    let r = c.next_sibling-next.result in
-    let z = size_at element_span rows k in
-    let told : SomeIff r (HasNext element_span rows k p) (k + size_at element_span rows k) =
-    subst (λ xs. SomeIff r (HasNext element_span xs k p) (k + size_at element_span xs k)) c.new-tree.ensures.rows c.next_sibling-next.ensures.by_size in
-    let place : place_of rows p r ≡ k + z =
-    ap (place_of rows p) (next_in_tree element_span (alone fin.0) rows fin.2 k p r told n x.child) ∙ (next_place bytes rows fin p n k c.requires.parent x.child).0 in
-    let wrote : Wrote rows (leaves_in rows (p + 1) (k - (p + 1))) c.args.done c.args.columns.now c.args.paths.now c.loop-next.columns c.loop-next.paths (Ok c.loop-next.so_far) =
-    subst (λ m. Wrote rows (leaves_in rows (p + 1) (m - (p + 1))) c.args.done c.args.columns.now c.args.paths.now c.loop-next.columns c.loop-next.paths (Ok c.loop-next.so_far)) at c.loop-next.invariant.4 in (
-      walk_more element_span rows p n k c.loop-next.next r c.loop-next.invariant.0 c.in-Some.is told,
-      restored_on c.args.walked.now c.loop-next.walked c.list_element.new.walked c.loop-next.invariant.1 c.list_element.ensures.restored,
-      (omega (arith, place, x.after), omega (arith, place, x.ends)),
-      (λ e. ap (λ m. m + 1) (c.loop-next.invariant.3 e ∙ ap (roots_before rows) at)
-          ∙ sym (ap (roots_before rows) place ∙ roots_past bytes rows fin n k (subst (λ q. slice_get (children (alone fin.0) q) n ≡ Some k) e x.child) x.within)),
-      wrote_more rows (leaves_in rows (p + 1) (k - (p + 1))) (leaves_at rows k) c.args.done c.loop-next.so_far c.args.columns.now c.args.paths.now c.loop-next.columns c.loop-next.paths c.list_element.new.columns c.list_element.new.paths
-          c.loop-next.auto.paths wrote c.in_ok-so_far.so_far c.in_ok-so_far.ensures.wrote (leaves_in rows (p + 1) (place_of rows p r - (p + 1)))
-          (ap (λ m. leaves_in rows (p + 1) (m - (p + 1))) place ∙ split_on rows p k z (omega (arith, x.after))),
-    )
+    let x = next_child rows bytes fin p it.count k it.iter rest c.requires.parent had.comes step.0 in
+    let place = place_of rows p (slice_get rest 0) in
+    let wrote : Wrote rows (leaves_in rows (p + 1) (k - (p + 1))) c.args.done c.args.columns.now c.args.paths.now c.loop-number.columns c.loop-number.paths (Ok c.loop-number.so_far) =
+    subst (λ m. Wrote rows (leaves_in rows (p + 1) (m - (p + 1))) c.args.done c.args.columns.now c.args.paths.now c.loop-number.columns c.loop-number.paths (Ok c.loop-number.so_far)) x.here had.wrote in
+    record {
+      comes = λ f l. sym (drop_next (children f p) it.count k rest (sym (had.comes f l) ∙ step.0)) ∙ ap (λ n. drop n (children f p)) (sym (add-one it.count) ∙ sym step.2);
+      restored = restored_on c.args.walked.now c.loop-number.walked c.list_element.new.walked had.restored c.list_element.ensures.restored;
+      after = omega (arith, x.next, x.after);
+      ends = omega (arith, x.next, x.ends);
+      roots = λ e. step.2 ∙ ap (λ m. m + 1) (had.roots e ∙ ap (roots_before rows) x.here)
+          ∙ sym (ap (roots_before rows) x.next ∙ roots_past bytes rows fin it.count k (subst (λ q. slice_get (children (alone fin.0) q) it.count ≡ Some k) e x.child) x.within);
+      wrote =
+          wrote_more rows (leaves_in rows (p + 1) (k - (p + 1))) (leaves_at rows k) c.args.done c.loop-number.so_far c.args.columns.now c.args.paths.now c.loop-number.columns c.loop-number.paths c.list_element.new.columns c.list_element.new.paths
+          c.loop-number.auto.paths wrote c.in_ok-so_far.so_far c.in_ok-so_far.ensures.wrote (leaves_in rows (p + 1) (place - (p + 1)))
+          (ap (λ m. leaves_in rows (p + 1) (m - (p + 1))) x.next ∙ split_on rows p k (size_at element_span rows k) (omega (arith, x.after)));
+    }
 
 -- An element.
 

@@ -1,0 +1,89 @@
+-- The children of a row by the sizes: a step, how many there are, and that in a tree they are the tree's.
+use Rattle.std.proofs.Common.{◌≡◌, ℕ, zero, suc, ◌+◌, ◌-◌, ◌<◌, ◌≤◌, Bool, true, false, cond, List, [], ◌∷◌, length, drop, Some, None, Option, sym, refl, ap, ◌∙◌, add-one, arith}
+use Rattle.std.specs.List.{slice_get}
+use Rattle.std.specs.Option.{SomeIff}
+use Rattle.std.proofs.lemmas.Bool.Decides.{nat_tests}
+use Rattle.std.proofs.lemmas.List.{drop_all}
+use Rattle.tree.specs.Forest.{Forest, Lists, size_at, children, HasChild, HasNext}
+use Rattle.tree.specs.Walk.{eldest, sibling, siblings, children_from, children_by_size}
+use Rattle.tree.proofs.Trees.{checked_same, first_in_tree, next_in_tree}
+
+nth_none : {X : Type 0} (xs : List X) (k : ℕ) → slice_get xs k ≡ None → length xs ≤ k
+nth_none [] k e = omega arith
+nth_none (y ∷ xs) zero e = absurd (let z : ◌≡◌ {A = ℕ} 0 1 = cc in omega arith)
+nth_none (y ∷ xs) (suc k) e = let r = nth_none xs k e in omega arith
+
+by_test : (b : Bool) (P : Type 0) (v : ℕ) → (b ≡ true → P) → (b ≡ false → P → ⊥) → SomeIff (cond b (Some v) None) P v
+by_test true P v h k = (h refl, refl)
+by_test false P v h k = k refl
+
+-- what is left of a list from one of its items on
+drop_at : {A : Type 0} (xs : List A) (k : ℕ) (x : A) → slice_get xs k ≡ Some x → drop k xs ≡ x ∷ drop (suc k) xs
+drop_at [] k x e = absurd (let z : ◌≡◌ {A = ℕ} 0 1 = cc in omega arith)
+drop_at (y ∷ xs) zero x e = cc
+drop_at (y ∷ xs) (suc k) x e = drop_at xs k x e
+
+module _ {A : Type 0} (span : A → ℕ) (rows : List A) (p : ℕ) where
+  -- the child after a child, told by the test and told by the sizes' facts
+  pub sibling_told : (c : ℕ) → SomeIff (sibling span rows p c) (HasNext span rows c p) (c + size_at span rows c)
+  sibling_told c = by_test _ _ _ (λ e. grind (arith, nat_tests)) (λ e h. grind (arith, nat_tests))
+
+  eldest_told : SomeIff (eldest span rows p) (HasChild span rows p) (p + 1)
+  eldest_told = by_test _ _ _ (λ e. grind (arith, nat_tests)) (λ e h. grind (arith, nat_tests))
+
+  pub children_told : (r : Option ℕ) → SomeIff r (HasChild span rows p) (p + 1) → children_from span rows p r ≡ children_by_size span rows p
+  children_told r x = ap (children_from span rows p) (checked_same span r (eldest span rows p) (HasChild span rows p) (p + 1) x eldest_told)
+
+  -- at most so many children come
+  abbrev pub room : Option ℕ → ℕ
+  room None = 0
+  room (Some c) = suc (length rows - c)
+
+  room_falls : (c : ℕ) (o : Option ℕ) → SomeIff o (HasNext span rows c p) (c + size_at span rows c) → (room o ≤ length rows) × (room o < room (Some c))
+  room_falls c None x = (omega arith, omega arith)
+  room_falls c (Some d) x = (omega (arith, x.1, x.0.0, x.0.2), omega (arith, x.1, x.0.1, x.0.2))
+
+  -- more than there is room for changes nothing
+  enough : (n : ℕ) (o : Option ℕ) → room o ≤ n → siblings span rows p n o ≡ siblings span rows p (suc n) o
+  enough zero None h = refl
+  enough zero (Some c) h = absurd (omega arith)
+  enough (suc n) None h = refl
+  enough (suc n) (Some c) h =
+      let r = room_falls c (sibling span rows p c) (sibling_told c) in
+      ap (λ xs. c ∷ xs) (enough n (sibling span rows p c) (omega (arith, r.1)))
+
+  -- one child, and what comes after it
+  pub children_step : (next : Option ℕ) (c : ℕ) (r : Option ℕ) → next ≡ Some c → SomeIff r (HasNext span rows c p) (c + size_at span rows c) → children_from span rows p next ≡ c ∷ children_from span rows p r
+  children_step next c r e x =
+      let same : r ≡ sibling span rows p c = checked_same span r (sibling span rows p c) (HasNext span rows c p) (c + size_at span rows c) x (sibling_told c) in
+      let f = room_falls c (sibling span rows p c) (sibling_told c) in
+      ap (children_from span rows p) e ∙ ap (λ xs. c ∷ xs) (enough (length rows) (sibling span rows p c) f.0 ∙ ap (children_from span rows p) (sym same))
+
+  few : (n : ℕ) (o : Option ℕ) → length (siblings span rows p n o) ≤ room o
+  few zero o = omega arith
+  few (suc n) None = omega arith
+  few (suc n) (Some c) =
+      let r = room_falls c (sibling span rows p c) (sibling_told c) in
+      omega (arith, few n (sibling span rows p c), r.1)
+
+  first_room : (r : Option ℕ) → SomeIff r (HasChild span rows p) (p + 1) → room r ≤ length rows
+  first_room None x = omega arith
+  first_room (Some c) x = omega (arith, x.1, x.0.1)
+
+  -- there are no more children than rows
+  pub few_children : (r : Option ℕ) → SomeIff r (HasChild span rows p) (p + 1) → length (children_from span rows p r) ≤ length rows
+  few_children r x = omega (arith, few (suc (length rows)) r, first_room r x)
+
+  module _ (f : Forest A) (l : Lists span f rows) where
+    from_tree : (n k : ℕ) (o : Option ℕ) → slice_get (children f p) k ≡ o → room o ≤ n → siblings span rows p n o ≡ drop k (children f p)
+    from_tree zero k None e h = sym (drop_all k (children f p) (nth_none (children f p) k e))
+    from_tree zero k (Some c) e h = absurd (omega arith)
+    from_tree (suc n) k None e h = sym (drop_all k (children f p) (nth_none (children f p) k e))
+    from_tree (suc n) k (Some c) e h =
+        let r = room_falls c (sibling span rows p c) (sibling_told c) in
+        let next = next_in_tree span f rows l c p (sibling span rows p c) (sibling_told c) k e in
+        ap (λ xs. c ∷ xs) (from_tree n (k + 1) (sibling span rows p c) (sym next) (omega (arith, r.1))) ∙ ap (λ m. c ∷ drop m (children f p)) (add-one k) ∙ sym (drop_at (children f p) k c e)
+
+    -- in a tree the children by the sizes are the tree's
+    pub children_in_tree : (r : Option ℕ) → SomeIff r (HasChild span rows p) (p + 1) → children_from span rows p r ≡ children f p
+    children_in_tree r x = from_tree (suc (length rows)) 0 r (sym (first_in_tree span f rows l p r x)) (omega (arith, first_room r x))

@@ -11,11 +11,19 @@ pub const MAX_PRECISION: [u8; 32] = [
     62, 64, 67, 69, 71, 74, 76,
 ];
 
+fn max_precision(n: usize) -> u8
+    requires { (0 < n) × (n ≤ 32) }
+    ensures held { 10 ^ result ≤ greatest n }
+    ensures most { greatest n < 10 ^ (result + 1) }
+{
+    MAX_PRECISION[n - 1]
+}
+
 fn held_by(n: usize, digits: u8) -> bool
     requires { (0 < n) × (n ≤ 32) }
     ensures { result ≡ holds n digits }
 {
-    digits <= MAX_PRECISION[n - 1]
+    digits <= max_precision(n)
 }
 
 // Whether so many bytes hold so many digits; lengths outside 1 to 32 hold none.

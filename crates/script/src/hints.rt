@@ -134,11 +134,6 @@ pub struct TypeWord<'a> {
     pub text: &'a [u8],
 }
 
-fn place_of(text: &[u8], place: TextPlace) -> &[u8] {
-    text.get(place.start..place.start.saturating_add(place.length))
-        .unwrap_or(&[])
-}
-
 impl fmt::Display for TypeWord<'_> {
     fn fmt<W: fmt::Write>(&self, f: &mut fmt::Formatter<W>) -> fmt::Result {
         match self.data_type {
@@ -159,7 +154,7 @@ impl fmt::Display for TypeWord<'_> {
                     f,
                     "timestamp({},{})",
                     unit_word(unit),
-                    Text(place_of(self.text, place))
+                    Text(place.bytes_in(self.text))
                 )
             }
             ArrowType::Decimal32(p, s) => write!(f, "decimal32({p},{s})"),
@@ -286,7 +281,7 @@ impl Hints {
                 data_type: row.data_type,
                 text: &self.text,
             };
-            let name = Text(place_of(&self.text, row.name));
+            let name = Text(row.name.bytes_in(&self.text));
             let line = format!(in heap;
                 "  hint {number} size={size} null={null} type={word} meta={metadata} {name}\n"
             )?;

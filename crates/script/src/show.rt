@@ -33,13 +33,7 @@ impl fmt::Display for Answer {
                 f,
                 "{elements} elements, {leaves} leaves"
             ),
-            Answer::Refused(refusal) => {
-                write!(f, "refused {}", refusal.number())?;
-                match refusal.element() {
-                    Some(element) => write!(f, " element {element}"),
-                    None => Ok(()),
-                }
-            }
+            Answer::Refused(refusal) => write!(f, "{refusal}"),
             Answer::Listed { columns } => write!(f, "{columns} columns"),
             Answer::Selected { flagged } => write!(f, "{flagged} flagged"),
             Answer::Hinted { row } => write!(f, "row {row}"),

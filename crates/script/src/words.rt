@@ -338,6 +338,7 @@ fn logical_of_parts(word: &str) -> Option<LogicalType>
 impl FromWord for LogicalType {
     ghost spells = { λ w x. LogicalSpelled w x };
 
+    #[tactic(auto, using(crate::proofs::Payloads::spelled))]
     fn from_word(word: &str) -> Option<LogicalType> {
         match word {
             "unknown" => Some(LogicalType::Unknown),

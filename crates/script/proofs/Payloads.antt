@@ -68,32 +68,20 @@ in_parts_spelled w (l.Integer width signed) h = h
 in_parts_spelled w (l.Time utc unit) h = h
 in_parts_spelled w (l.Timestamp utc unit) h = h
 
--- none of the words that stand alone
-abbrev pub NoPlainWord : List ℕ → Type 0
-NoPlainWord w =
-    (w ≡ codes "unknown" → ⊥)
-    × (w ≡ codes "string" → ⊥)
-    × (w ≡ codes "enum" → ⊥)
-    × (w ≡ codes "json" → ⊥)
-    × (w ≡ codes "bson" → ⊥)
-    × (w ≡ codes "uuid" → ⊥)
-    × (w ≡ codes "float16" → ⊥)
-    × (w ≡ codes "date" → ⊥)
-
-not_spelled : (w : List ℕ) → NoPlainWord w → ((x : LogicalType) → SpelledInParts w x → ⊥) → (x : LogicalType) → LogicalSpelled w x → ⊥
-not_spelled w plain none l.Unknown h = plain.0 h
-not_spelled w plain none l.String h = plain.1 h
-not_spelled w plain none l.Enum h = plain.2 h
-not_spelled w plain none l.Json h = plain.3 h
-not_spelled w plain none l.Bson h = plain.4 h
-not_spelled w plain none l.Uuid h = plain.5 h
-not_spelled w plain none l.Float16 h = plain.6 h
-not_spelled w plain none l.Date h = plain.7 h
-not_spelled w plain none (l.Decimal scale precision) h = none (l.Decimal scale precision) h
-not_spelled w plain none (l.Integer width signed) h = none (l.Integer width signed) h
-not_spelled w plain none (l.Time utc unit) h = none (l.Time utc unit) h
-not_spelled w plain none (l.Timestamp utc unit) h = none (l.Timestamp utc unit) h
-
-pub spelled : (w : List ℕ) → NoPlainWord w → (r : Option LogicalType) → Read (SpelledInParts w) r → Read (LogicalSpelled w) r
-spelled w plain None h = not_spelled w plain h
-spelled w plain (Some x) h = in_parts_spelled w x h
+pub spelled : (w : List ℕ) → (w ≡ codes "unknown" → ⊥) → (w ≡ codes "string" → ⊥) → (w ≡ codes "enum" → ⊥) → (w ≡ codes "json" → ⊥) → (w ≡ codes "bson" → ⊥) → (w ≡ codes "uuid" → ⊥) → (w ≡ codes "float16" → ⊥) → (w ≡ codes "date" → ⊥) → (r : Option LogicalType) → Read (SpelledInParts w) r → Read (LogicalSpelled w) r
+spelled w not_unknown not_string not_enum not_json not_bson not_uuid not_float16 not_date (Some x) h = in_parts_spelled w x h
+spelled w not_unknown not_string not_enum not_json not_bson not_uuid not_float16 not_date None h =
+    elim [
+      | l.Unknown ↦ not_unknown
+      | l.String ↦ not_string
+      | l.Enum ↦ not_enum
+      | l.Json ↦ not_json
+      | l.Bson ↦ not_bson
+      | l.Uuid ↦ not_uuid
+      | l.Float16 ↦ not_float16
+      | l.Date ↦ not_date
+      | l.Decimal scale precision ↦ h (l.Decimal scale precision)
+      | l.Integer width signed ↦ h (l.Integer width signed)
+      | l.Time utc unit ↦ h (l.Time utc unit)
+      | l.Timestamp utc unit ↦ h (l.Timestamp utc unit)
+    ]

@@ -10,7 +10,7 @@ use schema::{Annotation, ConvertedType, LogicalType, PhysicalType, Repetition, T
 use std::str::{FromStr, from_utf8};
 
 // What stands before the first such byte and what stands after it, if there is one.
-pub fn cut(text: &[u8], byte: u8) -> Option<(&[u8], &[u8])>
+fn cut(text: &[u8], byte: u8) -> Option<(&[u8], &[u8])>
     ensures cases { MatchOption result (Lacks byte text.now) (λ p. Lacks byte p.0.now × (text.now ≡ p.0.now ++ (byte ∷ p.1.now))) }
 {
     let at = text.iter().position(|b| *b == byte)?;
@@ -355,6 +355,7 @@ fn logical_of_parts(word: &str) -> Option<LogicalType>
 impl FromWord for LogicalType {
     ghost spells = { λ w x. LogicalSpelled w x };
 
+    #[tactic(auto, using(crate::proofs::Payloads::spelled))]
     fn from_word(word: &str) -> Option<LogicalType> {
         match word {
             "unknown" => Some(LogicalType::Unknown),

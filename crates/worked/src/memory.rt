@@ -30,8 +30,8 @@ fn accepts(
     row: Element,
 ) -> bool {
     let mut rows = *elements;
-    if at < 4 {
-        rows[at] = row;
+    if let Some(place) = rows.get_mut(at) {
+        *place = row;
     }
     schema.check(&rows, names)
 }
@@ -46,21 +46,17 @@ fn tampered(rt: HostRuntime) -> Result<(), Fail> {
     let [root, group, inner, outer] = elements;
     assert_eq!(rt; root.size, 4);
     assert_eq!(rt; group.size, 2);
-    assert!(rt; accepts(&schema, &elements, &names, 4, root));
+    assert!(rt; schema.check(&elements, &names));
     assert!(rt; !schema.check(&elements[0..3], &names));
     assert!(rt; !schema.check(&elements, &names[0..13]));
-    let mut row = inner;
-    row.depth = 1;
-    assert!(rt; !accepts(&schema, &elements, &names, 2, row));
-    row = group;
-    row.size = 1;
-    assert!(rt; !accepts(&schema, &elements, &names, 1, row));
-    row = group;
-    row.size = 3;
-    assert!(rt; !accepts(&schema, &elements, &names, 1, row));
-    row = outer;
-    row.size = 0;
-    assert!(rt; !accepts(&schema, &elements, &names, 3, row));
+    for (at, row) in [
+        (2, Element { depth: 1, ..inner }),
+        (1, Element { size: 1, ..group }),
+        (1, Element { size: 3, ..group }),
+        (3, Element { size: 0, ..outer }),
+    ] {
+        assert!(rt; !accepts(&schema, &elements, &names, at, row), "row {at}");
+    }
     Ok(())
 }
 

@@ -1,5 +1,5 @@
 -- The caller's tables as a whole.
-use Rattle.std.proofs.Common.{◌≡◌, ℕ, suc, ◌+◌, ◌-◌, ◌≤◌, Bool, true, false, cond, not, ◌&&◌, ◌||◌, eqb, ltb, List, [], ◌∷◌, ◌++◌, length, get_or, take, drop, replicate, Some, None, Ok, Err, Result, sym, refl, ap, ◌∙◌, subst, ap₂, append-nil, arith}
+use Rattle.std.proofs.Common.{◌≡◌, ℕ, suc, ◌+◌, ◌-◌, ◌≤◌, Bool, true, false, cond, not, ◌&&◌, ◌||◌, eqb, ltb, List, [], ◌∷◌, ◌++◌, length, get_or, take, drop, replicate, is_none, Some, None, Ok, Err, Result, sym, refl, ap, ◌∙◌, subst, ap₂, append-nil, arith}
 use borrow.Rule.Slice.PartMut.{put_mid}
 use Rattle.std.proofs.lemmas.List.{drop_all, length-drop, length-append, take_rest}
 use Rattle.std.proofs.lemmas.Bool.{le-ltb, lt-ltb, eq-eqb, or_from, and_parts}
@@ -10,7 +10,7 @@ use Rattle.schema.specs.declared.refusal.Refusal.{Refusal}
 use Rattle.schema.specs.declared.refusal.Refusal.TheVariants as no
 use Rattle.schema.specs.Elements.{is_group, empty}
 use Rattle.schema.specs.Posts.{first, refusal}
-use Rattle.schema.specs.Rows.{IsFinished, is_none, plain_group, named_inside}
+use Rattle.schema.specs.Rows.{IsFinished, plain_group, named_inside}
 use Rattle.columns.specs.declared.column.Column.{Column}
 use Rattle.columns.specs.declared.record.PathRecord.{PathRecord}
 use Rattle.columns.specs.declared.leaves.Done.{Done}

@@ -1,5 +1,5 @@
 -- The walk from the root.
-use Rattle.std.proofs.Common.{◌≡◌, ℕ, ◌+◌, ◌*◌, ◌≤◌, Bool, true, false, ◌&&◌, eqb, List, [], ◌∷◌, map, length, take, Some, Ok, Err, Result, sym, refl, ap, ◌∙◌, subst, ap₂, append-nil, arith, None, Option}
+use Rattle.std.proofs.Common.{◌≡◌, ℕ, ◌+◌, ◌*◌, ◌≤◌, Bool, true, false, ◌&&◌, eqb, List, [], ◌∷◌, map, length, take, is_none, Some, Ok, Err, Result, sym, refl, ap, ◌∙◌, subst, ap₂, append-nil, arith, None, Option}
 use lib.ListN.{length-map}
 use Rattle.std.proofs.lemmas.List.{length-take}
 use Rattle.std.proofs.lemmas.Bool.{and_parts}
@@ -12,7 +12,7 @@ use Rattle.schema.specs.declared.element.Kind.{Kind}
 use Rattle.schema.specs.declared.element.Kind.TheVariants.{Group as group, Leaf as leaf}
 use Rattle.schema.specs.declared.element.Leaf.{Leaf}
 use Rattle.schema.specs.declared.refusal.Refusal.{Refusal}
-use Rattle.schema.specs.Rows.{IsFinished, is_none, named_inside, plain_group, root_kept}
+use Rattle.schema.specs.Rows.{IsFinished, named_inside, plain_group, root_kept}
 use Rattle.arrow.specs.declared.hint.HintRow.{HintRow}
 use Rattle.arrow.specs.declared.row.ResultRow.{ResultRow}
 use Rattle.arrow.specs.Kinds.{hint_span}

@@ -1,5 +1,5 @@
 -- Rows that keep the steps are the rows of a tree by depth, and the other way round; and their sizes are the tree's.
-use Rattle.std.proofs.Common.{◌≡◌, ℕ, zero, suc, ◌+◌, ◌-◌, ◌<◌, ◌≤◌, Bool, true, false, cond, ◌&&◌, eqb, ltb, leb, ◌⊎◌, List, [], ◌∷◌, ◌++◌, length, get_or, is_some, sym, refl, ap, ◌∙◌, subst, ap₂, inl, inr, append_assoc, append-nil, arith}
+use Rattle.std.proofs.Common.{◌≡◌, ℕ, zero, suc, ◌+◌, ◌-◌, ◌<◌, ◌≤◌, Bool, true, false, cond, ◌&&◌, eqb, ltb, leb, ◌⊎◌, List, [], ◌∷◌, ◌++◌, length, get_or, is_some, is_none, sym, refl, ap, ◌∙◌, subst, ap₂, inl, inr, append_assoc, append-nil, arith}
 use Rattle.std.specs.List.{AllByRecursion}
 use Rattle.std.proofs.lemmas.Bool.{cond-true, cond-false, lt-ltb, le-ltb, le-leb, leb-true, eqb-true, and_from, and_parts, cases_lt}
 use Rattle.std.proofs.lemmas.List.{length-append, get_or_append_left, get_or-append_right}
@@ -10,7 +10,7 @@ use Rattle.schema.specs.declared.element.Element.{Element}
 use Rattle.tree.proofs.Trees.{below_rows}
 use Rattle.schema.specs.Elements.{element_span, empty, is_group}
 use Rattle.schema.proofs.Steps.{Known, known_tail, known_sized, length_sized, known_from_kept, kept_from_known}
-use Rattle.schema.specs.Rows.{is_none, plain_group, kind_kept, named_inside, root_kept, row_kept, deepest_after, may_follow, next_kept, rest_kept, rows_kept, ByDepth, IsSchema, IsFinished, sizes_kept, finished_kept, deeper, depths_of, sized, with_size}
+use Rattle.schema.specs.Rows.{plain_group, kind_kept, named_inside, root_kept, row_kept, deepest_after, may_follow, next_kept, rest_kept, rows_kept, ByDepth, IsSchema, IsFinished, sizes_kept, finished_kept, deeper, depths_of, sized, with_size}
 
 -- From steps to a tree. From the last row back, the trees so far stand one after the other, each root at most as deep as
 -- the root before it; a new row takes those that are deeper as its children.

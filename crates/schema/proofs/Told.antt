@@ -1,5 +1,5 @@
 -- What a history has come to holds what its accepted calls spelled.
-use Rattle.std.proofs.Common.{◌≡◌, ℕ, ◌+◌, ◌<◌, ◌≤◌, Bool, true, false, cond, not, ◌&&◌, ◌||◌, eqb, ltb, leb, List, [], ◌∷◌, ◌++◌, map, length, take, drop, set, ℤ, is_some, is_ok, Some, None, Ok, Err, Decides, Option, Result, sym, refl, ap, ◌∙◌, subst, arith}
+use Rattle.std.proofs.Common.{◌≡◌, ℕ, ◌+◌, ◌<◌, ◌≤◌, Bool, true, false, cond, not, ◌&&◌, ◌||◌, eqb, ltb, leb, List, [], ◌∷◌, ◌++◌, map, length, take, drop, set, ℤ, is_some, is_none, is_ok, Some, None, Ok, Err, Decides, Option, Result, sym, refl, ap, ◌∙◌, subst, arith}
 use Rattle.std.specs.List.{AllByRecursion}
 use Rattle.std.proofs.lemmas.List.{drop-take, take-take, take-append-le, take_at, drop_at, length-take-le, length-take, length-set, take_more_set, map_push, length-append, length-drop}
 use Rattle.std.proofs.lemmas.Bool.{and_parts, and_from, or_from, leb-true, leb-false, ltb-false, le-leb, le-ltb, eq-eqb, ne_eqb, cond-true, cond-false}
@@ -15,7 +15,7 @@ use Rattle.schema.specs.declared.refusal.Refusal.{Refusal}
 use Rattle.schema.specs.declared.refusal.Refusal.TheVariants as no
 use Rattle.schema.specs.Elements.{empty, end_of}
 use Rattle.schema.specs.Decimals.{keeps_leaf_rules}
-use Rattle.schema.specs.Rows.{is_none, plain_group, kind_kept, named_inside, root_kept, row_kept, deepest_after, may_follow, next_kept, rest_kept, rows_kept, sized, finished_kept}
+use Rattle.schema.specs.Rows.{plain_group, kind_kept, named_inside, root_kept, row_kept, deepest_after, may_follow, next_kept, rest_kept, rows_kept, sized, finished_kept}
 use Rattle.schema.specs.Words.{Spelled, Words, Event, Call, root_of, element_of, said, fewer, spelled, later, last_at, OpenIn, opens, adds, closes, finishes}
 use Rattle.schema.specs.Posts.{first, or_else, short, shown, shown_as, no_room, blank, spell_refusal, Same, Spelt, Whole, Begun, Opened, Added, Closed, Finished, FinishMeans, memory_kept, IsMemory}
 use Rattle.schema.specs.Reach.{Held, drafted, whole, count_of, bytes_of, held_after, event, Reached, begun, opened, added, closed, finished, listed, converted, lent, DraftHolds, SchemaHolds, Holds, FinishLaw}

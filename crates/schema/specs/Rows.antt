@@ -1,5 +1,5 @@
 -- Which rows are a schema, by their depths alone: as steps from row to row, and as a tree.
-use Rattle.std.specs.Prelude.{◌≡◌, ℕ, ◌+◌, ◌≤◌, Bool, true, false, cond, ◌&&◌, List, [], ◌∷◌, map, length, is_some, Some, None, Option, ◌==◌, nat_le, nat_lt}
+use Rattle.std.specs.Prelude.{◌≡◌, ℕ, ◌+◌, ◌≤◌, Bool, true, false, cond, ◌&&◌, List, [], ◌∷◌, map, length, is_some, is_none, ◌==◌, nat_le, nat_lt}
 use Rattle.std.specs.List.{AllByRecursion}
 use Rattle.tree.specs.Forest.{Forest, Tree, alone, listing, Lists}
 use Rattle.tree.specs.Forest.Forest.{bare, plant}
@@ -10,10 +10,6 @@ use Rattle.schema.specs.Elements.{element_span, is_group, lies_inside}
 use Rattle.schema.specs.Decimals.{keeps_leaf_rules}
 
 -- Records.
-
-abbrev pub is_none : {X : Type 0} → Option X → Bool
-is_none None = true
-is_none (Some x) = false
 
 -- a group with no annotation
 abbrev pub plain_group : Kind → Bool

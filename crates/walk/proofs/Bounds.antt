@@ -1,5 +1,5 @@
 -- Levels are at most 64, as depths are.
-use Rattle.std.proofs.Common.{◌≡◌, ℕ, ◌+◌, ◌≤◌, true, ◌&&◌, eqb, leb, List, [], ◌∷◌, map, is_some, Some, None, Option, sym, refl, subst, arith}
+use Rattle.std.proofs.Common.{◌≡◌, ℕ, ◌+◌, ◌≤◌, true, ◌&&◌, eqb, leb, List, [], ◌∷◌, map, is_some, Some, None, Option, sym, refl, subst, arith, is_none}
 use Rattle.std.specs.List.{AllByRecursion}
 use Rattle.std.proofs.lemmas.Bool.{leb-true, and_parts}
 use Rattle.walk.proofs.Lists.{all_back, all_front, height_relabel, listing_relabel}
@@ -10,7 +10,7 @@ use Rattle.walk.specs.Laws.{LevelsBounded, Low}
 use Rattle.walk.specs.Shape.{Made, Row, made_row, rows}
 use Rattle.walk.specs.Worked.{all}
 use Rattle.schema.specs.Posts.{shown_as}
-use Rattle.schema.specs.Rows.{ByDepth, is_none, kind_kept, named_inside, plain_group, root_kept, row_kept}
+use Rattle.schema.specs.Rows.{ByDepth, kind_kept, named_inside, plain_group, root_kept, row_kept}
 use Rattle.schema.specs.declared.basic.Repetition.{Repetition}
 use Rattle.schema.specs.declared.element.Element.{Element}
 use Rattle.tree.specs.Forest.{Forest, listing}

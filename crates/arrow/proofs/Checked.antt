@@ -1,6 +1,6 @@
 -- The check of hint rows answers whether they are a hint.
-use Rattle.std.proofs.Common.{◌≡◌, ℕ, ◌+◌, ◌≤◌, Bool, true, false, eqb, List, [], ◌∷◌, length, Decides, sym, refl, ap, ◌∙◌, inl, inr, append-nil, arith}
-use Rattle.std.proofs.lemmas.Bool.{false≢true, eqb-true}
+use Rattle.std.proofs.Common.{◌≡◌, ℕ, ◌+◌, ◌≤◌, Bool, true, false, eqb, List, [], length, Decides, sym, ap, ◌∙◌, inl, inr, append-nil, arith}
+use Rattle.std.proofs.lemmas.Bool.{false≢true}
 use Rattle.tree.specs.Forest.{Forest, alone, listing, Lists, IsFlatTree, count}
 use Rattle.arrow.specs.declared.hint.HintRow.{HintRow}
 use Rattle.arrow.specs.Kinds.{hint_span}
@@ -12,13 +12,6 @@ whole : (f : Forest HintRow) (rows : List HintRow) → Lists hint_span f rows �
 whole f rows l = record { rest = []; here = sym (append-nil (listing f) ∙ l.lists); sized = l.sized }
 
 module _ (n : ℕ) (rows : List HintRow) where
-  pub no_rows : eqb (length rows) 0 ≡ true → IsHint n rows
-  no_rows h = inl (empty rows (eqb-true (length rows) 0 h))
-    where
-      empty : (xs : List HintRow) → length xs ≡ 0 → xs ≡ []
-      empty [] e = refl
-      empty (x ∷ xs) e = absurd (omega arith)
-
   module _ (some : eqb (length rows) 0 ≡ false) where
     pub not_empty : rows ≡ [] → ⊥
     not_empty e = false≢true (sym some ∙ ap (λ xs. eqb (length xs) 0) e)

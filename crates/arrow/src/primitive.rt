@@ -33,6 +33,7 @@ pub fn convert_primitive(
 }
 
 // What holds of the types that `convert_primitive` answers. It does nothing: its contract is the theorem.
+#[tactic(auto, using(crate::proofs::Leaves::all_laws))]
 pub fn leaf_laws()
     ensures laws { LeafLaws }
 {}

@@ -1,13 +1,9 @@
-use Rattle.std.proofs.Common.{◌≤◌, List, length, sym, refl, ◌∙◌, subst}
+use Rattle.std.proofs.Common.{◌≤◌, List, length, sym, ◌∙◌, subst}
 use Rattle.tree.specs.Forest.{IsFlatTree}
 use Rattle.arrow.specs.declared.hint.HintRow.{HintRow}
 use Rattle.arrow.specs.Kinds.{hint_span}
-use Rattle.arrow.proofs.Checked.{no_rows, too_deep, all_kept}
+use Rattle.arrow.proofs.Checked.{too_deep, all_kept}
 use Rattle.arrow.proofs.hint.check_hints.Goals as goal
-
-pub returns-then-is_empty : goal.returns-then-is_empty
-returns-then-is_empty c =
-    record { accepts = (λ _. no_rows (length c.args.text.now) c.args.rows.now (sym c.is_empty.ensures ∙ c.if-is_empty.true), λ _. refl) }
 
 pub returns-then-is_shallow : goal.returns-then-is_shallow
 returns-then-is_shallow c =

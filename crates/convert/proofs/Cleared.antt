@@ -1,12 +1,11 @@
 -- A conversion's tables, before and after they are cleared.
-use Rattle.std.proofs.Common.{◌≡◌, ℕ, ◌-◌, ◌*◌, ◌/◌, ◌<◌, ◌≤◌, Bool, true, false, ◌&&◌, ltb, List, ◌++◌, map, length, take, drop, replicate, Some, None, Ok, Err, Decides, Option, Result, sym, refl, ap, ◌∙◌, subst, ap₂, inl, inr, arith}
+use Rattle.std.proofs.Common.{◌≡◌, ℕ, ◌-◌, ◌*◌, ◌/◌, ◌<◌, ◌≤◌, Bool, true, false, ◌&&◌, ltb, List, ◌++◌, map, length, take, drop, replicate, Some, None, Ok, Err, Decides, Option, Result, sym, refl, ap, ◌∙◌, subst, ap₂, arith}
 use borrow.Rule.Slice.PartMut.{put_mid}
 use Rattle.std.specs.List.{range_with_len}
 use Rattle.std.specs.Result.{is_err, result_unwrap_or}
 use Rattle.std.proofs.lemmas.List.FromFn.{fill_by_all}
 use Rattle.std.proofs.lemmas.Bool.{both_ways, le-ltb, lt-ltb, or_from, or_left, or_right}
 use Rattle.tree.specs.Forest.{Forest, alone, count, listing}
-use Rattle.tree.specs.Forest.Forest.{bare}
 use Rattle.schema.specs.declared.draft.Schema.{Schema}
 use Rattle.schema.specs.declared.element.Element.{Element}
 use Rattle.schema.specs.declared.refusal.Refusal.{Refusal}
@@ -46,10 +45,6 @@ front_fits names (Err e) after r q = subst (λ (x : Result ℕ Refusal). result_
 pub walks_fit : (s : Input) (after : List ResultRow) (r : Result ℕ Refusal) → Walks s after r → (bytes : ℕ) × IsFinished bytes s.elements → WholeHints s.hints → result_unwrap_or r 0 ≤ length after
 walks_fit s after r w t h = front_fits s.names (walk_under s.text h.0 (in_flags s.flags) (shown_tree s.names t.1.0)) after r (w t.0 t.1 h.0 h.1)
 
-pub whole_hints : {n : ℕ} {rows : List HintRow} → IsHint n rows → WholeHints rows
-whole_hints (inl e) = (bare, record { lists = sym e; sized = tt })
-whole_hints (inr t) = (alone t.0, t.1.lists)
-
 -- ── Chosen leaves ──
 
 -- flags that could not be chosen are too short
@@ -58,13 +53,13 @@ refused_short n m e q = go (ltb n m) q
   where
     go : (b : Bool) → Some e ≡ first b no.Table None → (b ≡ true) × (e ≡ no.Table)
     go true p = (refl, cc)
-    go false p = absurd (let z : ◌≡◌ {A = ℕ} 0 1 = cc in omega arith)
+    go false p = absurd cc
 
 pub accepted_long : (n m : ℕ) → ◌≡◌ {A = Option Refusal} None (first (ltb n m) no.Table None) → ltb n m ≡ false
 accepted_long n m q = go (ltb n m) q
   where
     go : (b : Bool) → ◌≡◌ {A = Option Refusal} None (first b no.Table None) → b ≡ false
-    go true p = absurd (let z : ◌≡◌ {A = ℕ} 0 1 = cc in omega arith)
+    go true p = absurd cc
     go false p = refl
 
 pub chosen_flags : (set : ℕ → Bool) (n : ℕ) (room : ℕ) (flags : List Bool) → length flags ≡ room → ((k : ℕ) → in_flags flags k ≡ below n set k) → flags ≡ map (below n set) (range_with_len 0 room)
@@ -126,10 +121,10 @@ module _ (s : Schema) (els : List Element) (ns : List ℕ) (set : ℕ → Bool) 
 -- refused, every flag is cleared, and else none
 pub flags_kept : (r : Result ℕ Refusal) (flags : List Bool) → false ≡ is_err r → flags ≡ flags_after r flags
 flags_kept (Ok n) flags e = refl
-flags_kept (Err d) flags e = absurd (let z : ◌≡◌ {A = ℕ} 0 1 = cc in omega arith)
+flags_kept (Err d) flags e = absurd cc
 
 pub flags_gone : (r : Result ℕ Refusal) (flags flags' : List Bool) → true ≡ is_err r → flags' ≡ replicate (length flags) false → flags' ≡ flags_after r flags
-flags_gone (Ok n) flags flags' e f = absurd (let z : ◌≡◌ {A = ℕ} 0 1 = cc in omega arith)
+flags_gone (Ok n) flags flags' e f = absurd cc
 flags_gone (Err d) flags flags' e f = f
 
 -- the rows past the used ones, filled

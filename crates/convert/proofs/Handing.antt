@@ -127,7 +127,7 @@ two_inside h (plant x b c) = refl
 
 pub over_by : (rows : List HintRow) (text : List ℕ) (o : Option ℕ) (hs : Forest Hint) → is_some o ≡ true → Hinted rows text o hs
     → over_two hs ≡ (planted (sole (inside hs)) && (fits any_struct (sole (inside hs)) && has_children 2 (sole (inside hs))))
-over_by rows text None hs k x = absurd (let z : ◌≡◌ {A = ℕ} 0 1 = cc in omega arith)
+over_by rows text None hs k x = absurd cc
 over_by rows text (Some j) hs k (h, b, n, q, e) =
     ap over_two e ∙ two_inside (hint_as text j h) (hints_of text (j + 1) b) ∙ ap (λ (x : Bool). x && (fits any_struct (sole (hints_of text (j + 1) b)) && has_children 2 (sole (hints_of text (j + 1) b)))) (sym (planted_sole (hints_of text (j + 1) b)))
     ∙ sym (ap (λ (f : Forest Hint). planted (sole (inside f)) && (fits any_struct (sole (inside f)) && has_children 2 (sole (inside f)))) e)

@@ -64,7 +64,7 @@ spot_any s p m k v hs None c l f =
 spot_any s p m k v hs (Some j) c l f = ap (λ (x : ℕ). gives_all s x k v true hs c) (sym (f j refl))
 
 checked_spot : (P : Type 0) (m : ℕ) (r : Option ℕ) → SomeIff r P m → (j : ℕ) → r ≡ Some j → j ≡ m
-checked_spot P m None c j e = absurd (let z : ◌≡◌ {A = ℕ} 0 1 = cc in omega arith)
+checked_spot P m None c j e = absurd cc
 checked_spot P m (Some d) c j e = some_same e ∙ c.1
   where
     some_same : Some d ≡ Some j → j ≡ d

@@ -19,3 +19,4 @@ pub mod Visited
 pub mod Dispatched
 pub mod Whole
 pub mod Cleared
+pub mod Uniques

@@ -86,9 +86,6 @@ module _ (t : List Element) (i : ℕ) (text : List ℕ) (k : ℕ) where
       (λ a c v d p. omega (arith, sized t (i + 1) a v (plant c d bare) p, count_plant a v (plant c d bare), count_plant c d bare)) f q p
 
   module _ (rep : Repetition) where
-    pub map_again : is_repeated rep ≡ true → (f : Forest Element) → map_role i rep (kids text i k f) ≡ Err (no.MapRepeated i)
-    map_again h f = ap (λ (b : Bool). cond b (Err (no.MapRepeated i)) (map_child i (kids text i k f))) h
-
     module _ (once : is_repeated rep ≡ false) where
       map_once : (f : Forest Element) → map_role i rep (kids text i k f) ≡ map_child i (kids text i k f)
       map_once f = ap (λ (b : Bool). cond b (Err (no.MapRepeated i)) (map_child i (kids text i k f))) once

@@ -1,5 +1,5 @@
 -- What an element is told from above, and the rows that it has of its own.
-use Rattle.std.proofs.Common.{◌≡◌, ℕ, Bool, true, false, cond, not, ◌&&◌, List, [], ◌∷◌, ◌++◌, map, Some, None, Ok, Err, Option, Result, sym, refl, ap, ◌∙◌, subst, arith}
+use Rattle.std.proofs.Common.{◌≡◌, ℕ, Bool, true, false, cond, not, ◌&&◌, List, [], ◌∷◌, ◌++◌, map, Some, None, Ok, Err, Option, Result, sym, refl, ap, ◌∙◌, subst}
 use Rattle.tree.specs.Forest.{Forest}
 use Rattle.tree.specs.Forest.Forest.{bare, plant}
 use Rattle.schema.specs.declared.basic.Repetition.{Repetition}
@@ -38,7 +38,7 @@ use Rattle.convert.specs.Handed.{typing_of}
 use Rattle.walk.specs.Results.{lines, struct_or_list, kind_told, shown_row}
 use Rattle.convert.specs.Outcome.{Outcome, Told, within, within_all, checked, told_label, told_below}
 use Rattle.convert.specs.Visit.{Input, Seats, stands_as, gives_as}
-use Rattle.convert.specs.Own.{outer_field, inner_of, own_field, own_row, list_row, listed_if, leaf_outcome}
+use Rattle.convert.specs.Own.{inner_of, own_row, list_row, listed_if, leaf_outcome}
 use Rattle.std.proofs.Math.Bool.{and-false}
 use Rattle.convert.proofs.Shapes.{differ, again_is}
 use Rattle.convert.proofs.Outcomes.{at_leaf}
@@ -51,7 +51,7 @@ some_same : (x y : Bool) → Some x ≡ Some y → x ≡ y
 some_same x y e = cc
 
 none_some : {A : Type 0} (b : Bool) → None ≡ Some b → A
-none_some b e = absurd (let z : ◌≡◌ {A = ℕ} 0 1 = cc in omega arith)
+none_some b e = absurd cc
 
 pub wrapped_is : (p : Part) (b : Bool) → stands_as p ≡ Some b → (r : Repetition) → wrapped p r ≡ (is_repeated r && not b)
 wrapped_is as_root b h r = subst (λ (x : Bool). is_repeated r ≡ (is_repeated r && not x)) (some_same false b h) (sym (and_true (is_repeated r)))
@@ -199,28 +199,19 @@ module _ (s : Input) (c : Seat) (t : Told) (q : Seats s c t) (i k : ℕ) (e : El
 
 answered_some : (i : ℕ) (x : Option ArrowType) (type : ArrowType) → answered i x ≡ Ok type → x ≡ Some type
 answered_some i (Some y) type e = cc
-answered_some i None type e = absurd (let z : ◌≡◌ {A = ℕ} 0 1 = cc in omega arith)
+answered_some i None type e = absurd cc
 
 pub typed_as : (i : ℕ) (x : Option ArrowType) (r : Result ArrowType Refusal) (type : ArrowType) → r ≡ answered i x → r ≡ Ok type → x ≡ Some type
 typed_as i x r type e f = answered_some i x type (sym e ∙ f)
 
 answered_none : (i : ℕ) (x : Option ArrowType) (r : Refusal) → answered i x ≡ Err r → (x ≡ None) × (r ≡ no.LeafType i)
-answered_none i (Some y) r e = absurd (let z : ◌≡◌ {A = ℕ} 0 1 = cc in omega arith)
+answered_none i (Some y) r e = absurd cc
 answered_none i None r e = (refl, cc)
 
 pub untyped_as : (i : ℕ) (x : Option ArrowType) (r : Result ArrowType Refusal) (f : Refusal) → r ≡ answered i x → r ≡ Err f → (x ≡ None) × (f ≡ no.LeafType i)
 untyped_as i x r f e g = answered_none i x f (sym e ∙ g)
 
--- ── Fields ──
-
-pub own_outer : (c : Seat) (hs : Forest Hint) (name : Place ℕ) (r : Repetition) → is_repeated r ≡ false → own_field c hs name r ≡ outer_field c (is_optional r)
-own_outer c hs name required h = refl
-own_outer c hs name optional h = refl
-own_outer c hs name repeated h = differ h
-
-pub own_inner : (c : Seat) (hs : Forest Hint) (name : Place ℕ) (r : Repetition) → is_repeated r ≡ true
-    → own_field c hs name r ≡ record { name = name; nullable = false; metadata = inner_of c.element hs }
-own_inner c hs name r h = ap (own_field c hs name) (again_is r h)
+-- ── Lists ──
 
 pub listed_no : (names : List ℕ) (c : Seat) (r : Repetition) (v : Levels) (o : Outcome) → is_repeated r ≡ false → listed_if names c r v o ≡ o
 listed_no names c required v o h = refl

@@ -1,5 +1,5 @@
 -- What a role says of the tree.
-use Rattle.std.proofs.Common.{◌≡◌, ℕ, ◌+◌, Bool, true, false, cond, not, ◌&&◌, List, sym, refl, ap, ◌∙◌, subst, ap₂, arith, Some, None, Option, Ok, Err, Result}
+use Rattle.std.proofs.Common.{◌≡◌, ℕ, ◌+◌, Bool, true, false, cond, not, ◌&&◌, List, sym, refl, ap, ◌∙◌, subst, ap₂, Some, None, Option, Ok, Err, Result}
 use Rattle.tree.specs.Forest.{Forest}
 use Rattle.tree.specs.Forest.Forest.{bare, plant}
 use Rattle.schema.specs.declared.element.Element.{Element}
@@ -23,7 +23,7 @@ use Rattle.convert.proofs.Trees.{read_here, below}
 use Rattle.convert.proofs.Roles.{again, by_one, by_several}
 
 pub differ : {A : Type 0} → true ≡ false → A
-differ e = absurd (let z : ◌≡◌ {A = ℕ} 0 1 = cc in omega arith)
+differ e = absurd cc
 
 pub again_is : (r : Repetition) → is_repeated r ≡ true → r ≡ Repeated
 again_is Required h = differ (sym h)

@@ -79,10 +79,6 @@ pub children_trees : {A : Type 0} (span : A → ℕ) (t : List A) (i : ℕ) (f :
     → length (children f i) ≡ trees b
 children_trees span t i f l e b c p = tops_trees (i + 1) (below_at f i) ∙ ap trees (below_whole span t i f l e b c p)
 
-pub no_trees : {A : Type 0} (f : Forest A) → trees f ≡ 0 → f ≡ bare
-no_trees bare h = refl
-no_trees (plant a b c) h = absurd (omega arith)
-
 -- ── Elements ──
 
 module _ (t : List Element) (i : ℕ) where

@@ -103,7 +103,7 @@ trees_kids names n k (plant e b c) = ap suc (trees_kids names (n + 1 + count (sp
 
 pub first_rows : (es : List Refusal) (xs rows : List Line) → unless_refused es xs ≡ Ok rows → xs ≡ rows
 first_rows [] xs rows h = cc
-first_rows (e ∷ es) xs rows h = absurd (let z : ◌≡◌ {A = ℕ} 0 1 = cc in omega arith)
+first_rows (e ∷ es) xs rows h = absurd cc
 
 -- at most two rows for each element
 outcome_few : (typing : Typing) (chosen : ℕ → Bool) (v : Levels) (p : Bool) (f : Forest Read) (rows : List Line) → outcome typing chosen v p f ≡ Ok rows → length rows ≤ 2 * count f

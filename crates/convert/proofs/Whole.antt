@@ -45,7 +45,7 @@ use Rattle.promise.proofs.Rows.{length_lines}
 
 pub no_first : (text : List ℕ) (h : Forest HintRow) → listing h ≡ [] → sole (hints_of text 0 h) ≡ bare
 no_first text bare e = refl
-no_first text (plant x b c) e = absurd (let z : ◌≡◌ {A = ℕ} 0 1 = cc in omega arith)
+no_first text (plant x b c) e = absurd cc
 
 pub first_hinted : (rows : List HintRow) (text : List ℕ) (h : Forest HintRow) → Lists hint_span h rows → (length rows ≡ 0 → ⊥) → Hinted rows text (Some 0) (sole (hints_of text 0 h))
 first_hinted rows text bare l n = absurd (n (ap length (sym l.lists)))
@@ -78,8 +78,8 @@ root_read hints x below e =
 
 plain_none : (k : Kind) → plain_group k ≡ true → k ≡ group None
 plain_none (group None) e = refl
-plain_none (group (Some how)) e = absurd (let z : ◌≡◌ {A = ℕ} 0 1 = cc in omega arith)
-plain_none (leaf l) e = absurd (let z : ◌≡◌ {A = ℕ} 0 1 = cc in omega arith)
+plain_none (group (Some how)) e = absurd cc
+plain_none (leaf l) e = absurd cc
 
 root_plain : (bytes : ℕ) (e : Element) → root_kept bytes e ≡ true → e.kind ≡ group None
 root_plain bytes e k =
@@ -162,7 +162,7 @@ module _ (names : List ℕ) (after : List ResultRow) where
   front_done (Err e) next before p q = absurd (let i = q.is in let z : ◌≡◌ {A = ℕ} 0 1 = cc in omega arith)
 
   front_refused : (w : Result (Forest Full) Refusal) (e : Refusal) → lined_result w ≡ Err e → Front names w after (Err e)
-  front_refused (Ok f) e i = absurd (let z : ◌≡◌ {A = ℕ} 0 1 = cc in omega arith)
+  front_refused (Ok f) e i = absurd cc
   front_refused (Err d) e i = let same : d ≡ e = cc in ap {B = Result ℕ Refusal} Err (sym same)
 
 -- ── The whole walk ──

@@ -41,7 +41,7 @@ pub record Input : Type 0 where
   pub flags : List Bool
 
 abbrev pub read_by : Source → Input
-read_by s = record { elements = s.elements.now; names = s.names.now; hints = s.hints.now; text = s.text.now; flags = s.chosen.now }
+read_by s = record { elements = s.elements.now; names = s.names.now; hints = s.hints.rows.now; text = s.hints.text.now; flags = s.chosen.now }
 
 -- whether the part is a list's element; none where the element has no row of its own
 abbrev pub stands_as : Part → Option Bool

@@ -14,7 +14,7 @@ ghost use Rattle.walk.specs.Labels.{Numbered, is_optional, or_required};
 ghost use Rattle.walk.specs.Shape.{base};
 ghost use Rattle.walk.specs.Shape.Items.{of_list, of_map};
 ghost use Rattle.convert.specs.Table.{Stands, Rooted, Reads, element_at, label};
-ghost use Rattle.convert.specs.Handed.{Hinted, WholeHints, Passes};
+ghost use Rattle.convert.specs.Handed.{Hinted, Passes};
 ghost use Rattle.convert.specs.Walked.{field_told, element_told, middle_told, entries_told, items_full, HasHint, Ready, ReadyBelow, Visits, VisitsAs, Dispatches, Fields};
 ghost use Rattle.convert.specs.Own.{group_field};
 ghost use Rattle.convert.specs.Root.{root_told, Walks};
@@ -23,10 +23,7 @@ ghost use Rattle.convert.specs.Outcome.{Told};
 ghost use Rattle.convert.specs.Visit.{Meets, Seats, read_by, gives_as};
 
 use crate::context::{Cursor, Seat, Source, Task};
-use crate::hints::{
-    first_hint, fits, has_children, has_name, hint_number, is_any_list, is_map, is_over_two,
-    is_sorted, is_struct, list_kind, metadata_of, next_hint, unwrap_hint,
-};
+use crate::hints::{is_any_list, is_map, is_struct};
 use crate::reading::{count_children, is_element, is_optional, role_at};
 use crate::rows::{close, close_struct, head_of, is_chosen, is_wrapped, raise, write_leaf};
 use arrow::{ArrowType, Entries, Field, HintRow, ResultRow, convert_primitive};
@@ -57,8 +54,8 @@ pub(crate) fn visit_primitive(
         });
     }
     let wrapped = is_wrapped(element, seat);
-    let hint = unwrap_hint(source.hints, at, wrapped, seat.hint)?;
-    let data_type = convert_primitive(&leaf, at, source.hints, source.text, hint)?;
+    let hint = source.hints.unwrap_list(at, wrapped, seat.hint)?;
+    let data_type = convert_primitive(&leaf, at, source.hints.rows, source.hints.text, hint)?;
     let levels = raise(seat.levels, element);
     Ok(write_leaf(
         source.hints,
@@ -80,7 +77,7 @@ fn check_name(source: Source, at: usize, element: Element, task: Task) -> Result
         return Ok(());
     }
     let name = element.name.bytes_in(source.names);
-    if !has_name(source.hints, source.text, task.hint, name) {
+    if !source.hints.has_name(task.hint, name) {
         return Err(Refusal::HintFieldName(at));
     }
     Ok(())
@@ -89,14 +86,13 @@ fn check_name(source: Source, at: usize, element: Element, task: Task) -> Result
 // 18, 19: the hint of the struct at `at` is no struct, or has another number of fields.
 fn check_struct(source: Source, at: usize, hint: Option<usize>) -> Result<(), Refusal>
     requires root { Rooted (read_by source).elements at }
-    requires hints { WholeHints (read_by source).hints }
     ensures { (e : Element) (below next : Forest Element) → Stands (read_by source.entry).elements at (plant e below next) → (hs : Forest Hint) → Hinted (read_by source.entry).hints (read_by source.entry).text hint hs → Passes (struct_checks at hs (trees below)) result }
 {
-    if !fits(source.hints, hint, is_struct) {
+    if !source.hints.fits(hint, is_struct) {
         return Err(Refusal::HintKind(at));
     }
     let fields = count_children(source.elements, at);
-    if !has_children(source.hints, hint, fields) {
+    if !source.hints.has_children(hint, fields) {
         return Err(Refusal::HintFieldCount(at));
     }
     Ok(())
@@ -115,21 +111,20 @@ fn field_seat(source: Source, element: Element, task: Task) -> Seat
         hint: task.hint,
         name: element.name,
         key: task.key,
-        metadata: metadata_of(source.hints, task.hint, element.field_id),
-        list: list_kind(source.hints, task.hint),
+        metadata: source.hints.metadata_of(task.hint, element.field_id),
+        list: source.hints.list_kind(task.hint),
         element: false,
     }
 }
 
 // 18, 21: the hint of the map at `at` is no map, or not over a struct of two.
 fn check_map(source: Source, at: usize, hint: Option<usize>) -> Result<(), Refusal>
-    requires hints { WholeHints (read_by source).hints }
     ensures { (hs : Forest Hint) → Hinted (read_by source.entry).hints (read_by source.entry).text hint hs → Passes (map_checks at hs) result }
 {
-    if !fits(source.hints, hint, is_map) {
+    if !source.hints.fits(hint, is_map) {
         return Err(Refusal::HintKind(at));
     }
-    if !is_over_two(source.hints, hint) {
+    if !source.hints.is_over_two(hint) {
         return Err(Refusal::HintMap(at));
     }
     Ok(())
@@ -144,10 +139,10 @@ fn element_seat(source: Source, group: Element, task: Task, levels: Levels) -> S
     Seat {
         levels,
         null_above: is_optional(group),
-        hint: first_hint(source.hints, task.hint),
+        hint: source.hints.first(task.hint),
         name: group.name,
         key: task.key,
-        metadata: metadata_of(source.hints, task.hint, group.field_id),
+        metadata: source.hints.metadata_of(task.hint, group.field_id),
         list: ArrowType::List,
         element: true,
     }
@@ -160,7 +155,7 @@ fn group_field(source: Source, group: Element, task: Task) -> Field
     Field {
         name: group.name,
         nullable: !task.key && is_optional(group),
-        metadata: metadata_of(source.hints, task.hint, group.field_id),
+        metadata: source.hints.metadata_of(task.hint, group.field_id),
     }
 }
 
@@ -172,7 +167,7 @@ fn middle_row(source: Source, group: Element, task: Task, levels: Levels) -> Res
         rep_level: levels.rep,
         def_level: levels.def,
         nullable: is_optional(group),
-        data_type: list_kind(source.hints, task.hint),
+        data_type: source.hints.list_kind(task.hint),
         size: 1,
         field: group_field(source, group, task),
         leaf: None,
@@ -191,18 +186,18 @@ fn map_row(
 ) -> ResultRow
     ensures { (i j k : ℕ) (hs : Forest Hint) → Hinted (read_by source.entry).hints (read_by source.entry).text task.hint hs → (typing : Typing) → shown_row (read_by source.entry).names result ≡ items_full typing (entries_told task.key hs (label (read_by source.entry).names i k group)) (Ok EntriesRole) of_map (label (read_by source.entry).names j k entries) levels (is_optional (or_required group.repetition)) }
 {
-    let inner = first_hint(source.hints, task.hint);
+    let inner = source.hints.first(task.hint);
     ResultRow {
         rep_level: levels.rep,
         def_level: levels.def,
         nullable: is_optional(group),
-        data_type: ArrowType::Map(is_sorted(source.hints, task.hint)),
+        data_type: ArrowType::Map(source.hints.is_sorted(task.hint)),
         size: 1,
         field: group_field(source, group, task),
         leaf: None,
         entries: Some(Entries {
             name: entries.name,
-            metadata: hint_number(source.hints, inner),
+            metadata: source.hints.number(inner),
         }),
     }
 }
@@ -217,7 +212,6 @@ fn visit_own(
     rows: &mut [ResultRow],
 ) -> Result<Cursor, Refusal>
     requires ready { Ready (read_by source).elements at seat.levels from (length rows.old) }
-    requires hints { WholeHints (read_by source).hints }
     requires hinted { HasHint (read_by source) seat.hint }
     ensures { Visits (read_by source.entry) at seat from rows.old rows.new result }
 {
@@ -238,14 +232,13 @@ fn visit_struct(
     rows: &mut [ResultRow],
 ) -> Result<Cursor, Refusal>
     requires ready { Ready (read_by source).elements at seat.levels from (length rows.old) }
-    requires hints { WholeHints (read_by source).hints }
     requires hinted { HasHint (read_by source) seat.hint }
     requires kind { (n : Option Annotation) × ((element_at (read_by source).elements at).kind ≡ GroupKind n) }
     ensures { Visits (read_by source.entry) at seat from rows.old rows.new result }
 {
     let element = source.elements[at];
     let wrapped = is_wrapped(element, seat);
-    let hint = unwrap_hint(source.hints, at, wrapped, seat.hint)?;
+    let hint = source.hints.unwrap_list(at, wrapped, seat.hint)?;
     check_struct(source, at, hint)?;
     let levels = raise(seat.levels, element);
     let inner = Cursor {
@@ -267,13 +260,12 @@ fn visit_fields(
     rows: &mut [ResultRow],
 ) -> Result<Cursor, Refusal>
     requires ready { ReadyBelow (read_by source).elements at levels from (length rows.old) }
-    requires hints { WholeHints (read_by source).hints }
     requires hinted { HasHint (read_by source) hint }
     ensures { Fields (read_by source.entry) at levels hint from rows.old rows.new result }
 {
     let tree = FlatTree::new(source.elements);
     let mut cursor = from;
-    let mut given = first_hint(source.hints, hint);
+    let mut given = source.hints.first(hint);
     let mut next = tree.first_child(at);
     while let Some(child) = next {
         let task = Task {
@@ -283,7 +275,7 @@ fn visit_fields(
             key: false,
         };
         cursor = dispatch(source, child, task, cursor, rows)?;
-        given = next_hint(source.hints, given, hint);
+        given = source.hints.next(given, hint);
         next = tree.next_sibling(child, at);
     }
     Ok(cursor)
@@ -299,12 +291,11 @@ fn visit_list(
     rows: &mut [ResultRow],
 ) -> Result<Cursor, Refusal>
     requires ready { Ready (read_by source).elements at task.levels from (length rows.old) }
-    requires hints { WholeHints (read_by source).hints }
     requires hinted { HasHint (read_by source) task.hint }
     requires reads { Reads (read_by source).elements at (Ok ListedRole) }
     ensures { VisitsAs (Ok ListedRole) (read_by source.entry) at task from rows.old rows.new result }
 {
-    if !fits(source.hints, task.hint, is_any_list) {
+    if !source.hints.fits(task.hint, is_any_list) {
         return Err(Refusal::HintKind(at));
     }
     let group = source.elements[at];
@@ -340,7 +331,6 @@ fn visit_map(
     rows: &mut [ResultRow],
 ) -> Result<Cursor, Refusal>
     requires ready { Ready (read_by source).elements at task.levels from (length rows.old) }
-    requires hints { WholeHints (read_by source).hints }
     requires hinted { HasHint (read_by source) task.hint }
     requires reads { Reads (read_by source).elements at (Ok MappedRole) }
     ensures { VisitsAs (Ok MappedRole) (read_by source.entry) at task from rows.old rows.new result }
@@ -349,8 +339,8 @@ fn visit_map(
     let group = source.elements[at];
     let entries = source.elements[at + 1];
     let levels = raise(raise(task.levels, group), entries);
-    let parent = first_hint(source.hints, task.hint);
-    let given = first_hint(source.hints, parent);
+    let parent = source.hints.first(task.hint);
+    let given = source.hints.first(parent);
     let key = Task {
         levels,
         hint: given,
@@ -364,7 +354,7 @@ fn visit_map(
     let middle = dispatch(source, at + 2, key, inner, rows)?;
     let value = Task {
         levels,
-        hint: next_hint(source.hints, given, parent),
+        hint: source.hints.next(given, parent),
         named: false,
         key: false,
     };
@@ -395,7 +385,6 @@ fn dispatch(
     rows: &mut [ResultRow],
 ) -> Result<Cursor, Refusal>
     requires ready { Ready (read_by source).elements at task.levels from (length rows.old) }
-    requires hints { WholeHints (read_by source).hints }
     requires hinted { HasHint (read_by source) task.hint }
     ensures { Dispatches (read_by source.entry) at task from rows.old rows.new result }
 {
@@ -413,7 +402,7 @@ fn dispatch(
 fn root_hint(source: Source) -> Option<usize>
     ensures { (h : Forest HintRow) → Lists hint_span h (read_by source.entry).hints → Hinted (read_by source.entry).hints (read_by source.entry).text result (sole (hints_of (read_by source.entry).text 0 h)) }
 {
-    if source.hints.is_empty() {
+    if source.hints.rows.is_empty() {
         None
     } else {
         Some(0)
@@ -436,7 +425,7 @@ fn root_seat(source: Source) -> Seat
         },
         key: false,
         metadata: None,
-        list: list_kind(source.hints, None),
+        list: source.hints.list_kind(None),
         element: false,
     }
 }
@@ -444,7 +433,6 @@ fn root_seat(source: Source) -> Seat
 // Visits the whole schema, from the root, and answers how many rows were written.
 pub(crate) fn visit_root(source: Source, rows: &mut [ResultRow]) -> Result<usize, Refusal>
     requires finished { (bytes : ℕ) × IsFinished bytes (read_by source).elements }
-    requires hints { WholeHints (read_by source).hints }
     requires room { 2 * length (read_by source).elements ≤ length rows.old }
     ensures { Walks (read_by source.entry) rows.new result }
 {

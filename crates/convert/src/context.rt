@@ -1,15 +1,15 @@
 // What the visits of the walk are given.
-use arrow::{ArrowType, HintRow, Metadata};
+use crate::hints::Hints;
+use arrow::{ArrowType, Metadata};
 use schema::{Element, Place};
 use walk::Levels;
 
-// What is read: the elements of a finished schema, the name memory, the hint rows with their text, and the chosen flags.
+// What is read: the elements of a finished schema, the name memory, the hint, and the chosen flags.
 #[derive(Clone, Copy)]
 pub(crate) struct Source<'a> {
     pub(crate) elements: &'a [Element],
     pub(crate) names: &'a [u8],
-    pub(crate) hints: &'a [HintRow],
-    pub(crate) text: &'a [u8],
+    pub(crate) hints: Hints<'a>,
     pub(crate) chosen: &'a [bool],
 }
 

@@ -8,7 +8,6 @@ ghost use Rattle.schema.specs.Rows.{IsFinished};
 ghost use Rattle.schema.specs.Words.{Event};
 ghost use Rattle.promise.specs.Conversion.{Converts, conversion, empty_row};
 ghost use Rattle.promise.specs.Promise.{Promised};
-ghost use Rattle.convert.specs.Handed.{WholeHints};
 ghost use Rattle.convert.specs.Root.{Walks};
 ghost use Rattle.convert.specs.Uncleared.{Uncleared};
 
@@ -20,6 +19,7 @@ mod rows;
 
 use crate::complex::visit_root;
 use crate::context::Source;
+use crate::hints::Hints;
 use arrow::{HintRow, ResultRow, check_hints};
 use columns::count_leaves;
 use schema::{Element, Refusal, Schema};
@@ -36,22 +36,19 @@ pub struct HintSchema<'a> {
 fn walk_elements<'a>(
     elements: &'a [Element],
     names: &'a [u8],
-    hints: &'a [HintRow],
-    text: &'a [u8],
+    hints: Hints<'a>,
     chosen: &'a [bool],
     rows: &mut [ResultRow],
 ) -> Result<usize, Refusal>
     requires finished { (bytes : ℕ) × IsFinished bytes elements.now }
-    requires hints { WholeHints hints.now }
     requires room { 2 * length elements.now ≤ length rows.old }
     ensures fits { result_unwrap_or result 0 ≤ length rows.new }
-    ensures walks { Walks (record { elements = elements.entry.now; names = names.now; hints = hints.now; text = text.now; flags = chosen.now }) rows.new result }
+    ensures walks { Walks (record { elements = elements.entry.now; names = names.now; hints = hints.entry.rows.now; text = hints.entry.text.now; flags = chosen.now }) rows.new result }
 {
     let source = Source {
         elements,
         names,
         hints,
-        text,
         chosen,
     };
     visit_root(source, rows)
@@ -82,7 +79,11 @@ fn walk_schema<S: Selection>(
     }
     let counted = &elements[0..count];
     choose(selection, count_leaves(counted), chosen)?;
-    walk_elements(counted, names, hints.rows, hints.text, chosen, rows)
+    let hints = Hints {
+        rows: hints.rows,
+        text: hints.text,
+    };
+    walk_elements(counted, names, hints, chosen, rows)
 }
 
 // Converts a finished schema into the rows of its Arrow field tree, for the leaves that the selection chooses and under the hint, if any.

@@ -12,9 +12,9 @@ ghost use Rattle.convert.specs.Visit.{Wrote};
 ghost use Rattle.convert.specs.Own.{outer_field, inner_of, own_field, own_row, list_row, leaf_outcome, StructClosed};
 
 use crate::context::{Cursor, Seat};
-use crate::hints::{first_hint, metadata_of};
+use crate::hints::Hints;
 use crate::reading::{is_optional, is_repeated};
-use arrow::{ArrowType, Field, HintRow, LeafNumbers, Metadata, ResultRow};
+use arrow::{ArrowType, Field, LeafNumbers, Metadata, ResultRow};
 use schema::{Element, Repetition};
 use selection::{Flags, Selection};
 use walk::Levels;
@@ -81,18 +81,18 @@ fn outer_field(seat: Seat, nullable: bool) -> Field
 
 // The metadata of the inner of an element's two rows.
 #[tactic(auto, using(crate::proofs::Handing::left_sole))]
-fn inner_metadata(hints: &[HintRow], seat: Seat) -> Option<Metadata>
-    ensures { (bytes : List ℕ) (hs : Forest Hint) → Hinted hints.now bytes seat.hint hs → result ≡ inner_of seat.element hs }
+fn inner_metadata(hints: Hints, seat: Seat) -> Option<Metadata>
+    ensures { (bytes : List ℕ) (hs : Forest Hint) → Hinted hints.entry.rows.now bytes seat.hint hs → result ≡ inner_of seat.element hs }
 {
     if seat.element {
         return None;
     }
-    metadata_of(hints, first_hint(hints, seat.hint), None)
+    hints.metadata_of(hints.first(seat.hint), None)
 }
 
 // The field of an element's own row.
-fn own_field(hints: &[HintRow], element: Element, seat: Seat) -> Field
-    ensures { (bytes : List ℕ) (hs : Forest Hint) → Hinted hints.now bytes seat.hint hs → result ≡ own_field seat hs element.name (or_required element.repetition) }
+fn own_field(hints: Hints, element: Element, seat: Seat) -> Field
+    ensures { (bytes : List ℕ) (hs : Forest Hint) → Hinted hints.entry.rows.now bytes seat.hint hs → result ≡ own_field seat hs element.name (or_required element.repetition) }
 {
     if is_repeated(element) {
         return Field {
@@ -106,14 +106,14 @@ fn own_field(hints: &[HintRow], element: Element, seat: Seat) -> Field
 
 // An element's own row, of size 1.
 pub(crate) fn own_row(
-    hints: &[HintRow],
+    hints: Hints,
     element: Element,
     seat: Seat,
     levels: Levels,
     data_type: ArrowType,
     leaf: Option<LeafNumbers>,
 ) -> ResultRow
-    ensures { (bytes : List ℕ) (hs : Forest Hint) → Hinted hints.now bytes seat.hint hs → result ≡ own_row seat hs element.name (or_required element.repetition) levels data_type leaf }
+    ensures { (bytes : List ℕ) (hs : Forest Hint) → Hinted hints.entry.rows.now bytes seat.hint hs → result ≡ own_row seat hs element.name (or_required element.repetition) levels data_type leaf }
 {
     ResultRow {
         rep_level: levels.rep,
@@ -145,7 +145,7 @@ pub(crate) fn list_row(seat: Seat, levels: Levels) -> ResultRow
 
 // Writes the row of a leaf, and puts a list round it where it is repeated.
 pub(crate) fn write_leaf(
-    hints: &[HintRow],
+    hints: Hints,
     at: usize,
     element: Element,
     seat: Seat,
@@ -156,7 +156,7 @@ pub(crate) fn write_leaf(
 ) -> Cursor
     requires room { from.row + 2 ≤ length rows.old }
     requires few { from.leaf + 1 < 2 ^ 64 }
-    ensures { (bytes names : List ℕ) (hs : Forest Hint) → Hinted hints.now bytes seat.hint hs → Wrote names (leaf_outcome names seat hs at from.leaf element.name (or_required element.repetition) levels data_type) from.row (from.leaf + 1) rows.old rows.new result }
+    ensures { (bytes names : List ℕ) (hs : Forest Hint) → Hinted hints.entry.rows.now bytes seat.hint hs → Wrote names (leaf_outcome names seat hs at from.leaf element.name (or_required element.repetition) levels data_type) from.row (from.leaf + 1) rows.old rows.new result }
 {
     let numbers = LeafNumbers {
         element: at,
@@ -188,7 +188,7 @@ pub(crate) fn head_of(element: Element, start: usize) -> usize
 
 // Puts a struct's row round its fields' rows, and a list round it where it is repeated.
 pub(crate) fn close_struct(
-    hints: &[HintRow],
+    hints: Hints,
     element: Element,
     seat: Seat,
     levels: Levels,
@@ -198,7 +198,7 @@ pub(crate) fn close_struct(
 ) -> Cursor
     requires room { start + 1 < length rows.old }
     requires past { (start + (if is_repeated (or_required element.repetition) then 1 else 0)) + 1 ≤ cursor.row }
-    ensures { StructClosed hints.now element seat levels start cursor rows.old rows.new result }
+    ensures { StructClosed hints.entry.rows.now element seat levels start cursor rows.old rows.new result }
 {
     let row = own_row(hints, element, seat, levels, ArrowType::Struct, None);
     if is_repeated(element) {

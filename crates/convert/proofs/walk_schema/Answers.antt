@@ -4,7 +4,7 @@ use Rattle.schema.specs.declared.refusal.Refusal.{Refusal}
 use Rattle.schema.specs.Rows.{IsFinished}
 use Rattle.std.specs.Result.{result_unwrap_or}
 use Rattle.convert.specs.Uncleared.Uncleared.{other_memory}
-use Rattle.convert.proofs.Cleared.{lent_on, step_hint, step_room, step_flags, step_walk, whole_hints}
+use Rattle.convert.proofs.Cleared.{lent_on, step_hint, step_room, step_flags, step_walk}
 use Rattle.convert.proofs.walk_schema.Goals as goal
 
 pub returns-then-not-check : goal.returns-then-not-check
@@ -45,7 +45,6 @@ walk_elements-requires g c =
     let e = lent_on c.args.elements.now c.elements-count.result s.count c.elements-count.ensures.count in
     record {
       finished = (s.bytes, subst (IsFinished s.bytes) (sym e) m.tree);
-      hints = whole_hints (c.if-not-check_hints.ensures.accepts.0 refl);
       room = let l = length-take (c.elements-count.result - 0) c.args.elements.now in omega (arith, c.if-rows-count.false);
     }
 

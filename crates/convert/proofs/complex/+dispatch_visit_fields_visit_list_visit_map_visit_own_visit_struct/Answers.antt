@@ -8,7 +8,7 @@ use Rattle.convert.proofs.ListVisit.{list_refused, child_ready, visits_itself, i
 use Rattle.convert.proofs.MapVisit.{places_in, map_refused, key_handed, key_ready, key_off, value_handed, value_ready, rows_end, value_off, half_taken, taken}
 use Rattle.convert.proofs.Visited.{within_ready, within_past, within_hinted, struct_misfit, struct_other, struct_broken, struct_done}
 use Rattle.convert.proofs.Dispatched.{dispatch_misnamed, dispatch_by, dispatch_broken, own_as, never_below, reads_as}
-use Rattle.convert.proofs.Inside.{begins, next_measure, next_ready, next_hinted, broken_off, next_falls, onward, finished}
+use Rattle.convert.proofs.Inside.{begins, next_measure, next_ready, next_hinted, broken_off, onward, finished}
 use Rattle.convert.proofs.complex.+dispatch_visit_fields_visit_list_visit_map_visit_own_visit_struct.Goals as goal
 use Rattle.convert.proofs.complex.+dispatch_visit_fields_visit_list_visit_map_visit_own_visit_struct.Goals.{visit_map-then-middle-from-via-then-middle-from, visit_map-then-middle-from-via-else-middle-from+then-cursor-middle}
 
@@ -39,33 +39,29 @@ dispatch-returns-in_err-role_at t c =
     rw (p.1, p.2) (dispatch_broken (read_by c.args.source) c.args.at c.args.task c.args.from c.args.rows.now c.args.rows.now c.in_ok-check_name.ensures _ c.in_err-role_at.ensures _ refl)
 
 pub dispatch-visit_list-requires : goal.dispatch-visit_list-requires
-dispatch-visit_list-requires t c = (omega (arith, c.decreases), (c.requires.ready, (c.requires.hints, (c.requires.hinted, reads_as listed c.in-Listed.is c.in_ok-role_at.ensures))))
+dispatch-visit_list-requires t c = (omega (arith, c.decreases), (c.requires.ready, (c.requires.hinted, reads_as listed c.in-Listed.is c.in_ok-role_at.ensures)))
 
 pub dispatch-visit_map-requires : goal.dispatch-visit_map-requires
-dispatch-visit_map-requires t c = (omega (arith, c.decreases), (c.requires.ready, (c.requires.hints, (c.requires.hinted, reads_as mapped c.in-Mapped.is c.in_ok-role_at.ensures))))
+dispatch-visit_map-requires t c = (omega (arith, c.decreases), (c.requires.ready, (c.requires.hinted, reads_as mapped c.in-Mapped.is c.in_ok-role_at.ensures)))
 
 pub visit_fields-loop-next-init : goal.visit_fields-loop-next-init
 visit_fields-loop-next-init t c =
-    begins c.requires.ready c.requires.hinted c.first_child-next.result (simp c.new-tree.ensures.rows at c.first_child-next.ensures.by_size) c.first_hint-given.result c.first_hint-given.ensures
+    begins c.requires.ready c.requires.hinted c.first_child-next.result (simp c.new-tree.ensures.rows at c.first_child-next.ensures.by_size) c.first-given.result c.first-given.ensures
 
 pub visit_fields-dispatch-requires : goal.visit_fields-dispatch-requires
 visit_fields-dispatch-requires t c =
     let m = next_measure c.loop-next.invariant c.in-Some.child c.in-Some.is in
-    (omega (arith, c.decreases, m), (next_ready c.loop-next.invariant c.in-Some.child c.in-Some.is, (c.requires.hints, next_hinted c.loop-next.invariant)))
+    (omega (arith, c.decreases, m), (next_ready c.loop-next.invariant c.in-Some.child c.in-Some.is, next_hinted c.loop-next.invariant))
 
 pub visit_fields-returns-in_err-cursor : goal.visit_fields-returns-in_err-cursor
 visit_fields-returns-in_err-cursor t c =
     let p = err_from_is_err_and c.from_residual.result c.from_residual.ensures.1 in
     rw (p.1, p.2) (broken_off c.loop-next.invariant c.in-Some.child c.in-Some.is _ c.dispatch.new.rows c.in_err-cursor.ensures)
 
-pub visit_fields-loop-next-smaller : goal.visit_fields-loop-next-smaller
-visit_fields-loop-next-smaller t c =
-    next_falls c.loop-next.invariant c.in-Some.child c.in-Some.is c.next_sibling-next.result (simp c.new-tree.ensures.rows at c.next_sibling-next.ensures.by_size)
-
 pub visit_fields-loop-next-preserved : goal.visit_fields-loop-next-preserved
 visit_fields-loop-next-preserved t c =
     onward c.loop-next.invariant c.in-Some.child c.in-Some.is c.in_ok-cursor.cursor c.dispatch.new.rows (omega arith) c.in_ok-cursor.ensures
-    c.next_sibling-next.result (simp c.new-tree.ensures.rows at c.next_sibling-next.ensures.by_size) c.next_hint-given.result c.next_hint-given.ensures
+    c.next_sibling-next.result (simp c.new-tree.ensures.rows at c.next_sibling-next.ensures.by_size) c.next-given.result c.next-given.ensures
 
 pub visit_fields-returns : goal.visit_fields-returns
 visit_fields-returns t c =
@@ -73,17 +69,17 @@ visit_fields-returns t c =
 
 pub visit_list-returns-then-not-fits : goal.visit_list-returns-then-not-fits
 visit_list-returns-then-not-fits t c =
-    list_refused (read_by c.args.source) c.args.at c.args.task c.args.from c.args.rows.now c.requires.reads (λ hs p. sym (c.fits.ensures c.args.source.text.now hs p any_list (λ x b q. q.1)) ∙ c.if-not-fits.true) c.args.rows.now
+    list_refused (read_by c.args.source) c.args.at c.args.task c.args.from c.args.rows.now c.requires.reads (λ hs p. sym (c.fits.ensures c.args.source.hints.text.now hs p any_list (λ x b q. q.1)) ∙ c.if-not-fits.true) c.args.rows.now
 
 pub visit_list-visit_own-requires : goal.visit_list-visit_own-requires
 visit_list-visit_own-requires t c =
     let z = child_ready (read_by c.args.source) c.args.at c.args.task c.args.from c.args.rows.now c.requires.reads c.element_seat-seat.result.levels (c.element_seat-seat.ensures.levels ∙ c.raise-levels.ensures) _ c.requires.ready in
     let (hs, p) = c.requires.hinted in
-    (omega (arith, c.decreases, z.0), (z.1, (c.requires.hints, (_, (c.element_seat-seat.ensures.seats 0 0 hs p).hint))))
+    (omega (arith, c.decreases, z.0), (z.1, (_, (c.element_seat-seat.ensures.seats 0 0 hs p).hint)))
 
 pub visit_list-returns-then-is_element : goal.visit_list-returns-then-is_element
 visit_list-returns-then-is_element t c =
-    visits_itself (read_by c.args.source) c.args.at c.args.task c.args.from c.args.rows.now c.requires.reads (λ hs p. sym (c.fits.ensures c.args.source.text.now hs p any_list (λ x b q. q.1)) ∙ c.if-not-fits.false)
+    visits_itself (read_by c.args.source) c.args.at c.args.task c.args.from c.args.rows.now c.requires.reads (λ hs p. sym (c.fits.ensures c.args.source.hints.text.now hs p any_list (λ x b q. q.1)) ∙ c.if-not-fits.false)
     c.is_element.result c.is_element.ensures c.if-is_element.true c.element_seat-seat.result (c.element_seat-seat.ensures.levels ∙ c.raise-levels.ensures) c.element_seat-seat.ensures.above c.element_seat-seat.ensures.seats
     c.visit_own.new.rows c.visit_own.result c.visit_own.ensures
 
@@ -96,13 +92,13 @@ pub visit_list-dispatch-requires : goal.visit_list-dispatch-requires
 visit_list-dispatch-requires t c =
     let z = item_ready (read_by c.args.source) c.args.at c.args.task c.args.from c.args.rows.now c.requires.reads c.is_element.result c.is_element.ensures c.if-is_element.false c.raise-levels.result c.raise-levels.ensures c.raise-deeper.result c.raise-deeper.ensures _ c.requires.ready in
     let (hs, p) = c.requires.hinted in
-    (omega (arith, c.decreases, z.0), (z.1, (c.requires.hints, (_, (c.element_seat-seat.ensures.seats 0 0 hs p).hint))))
+    (omega (arith, c.decreases, z.0), (z.1, (_, (c.element_seat-seat.ensures.seats 0 0 hs p).hint)))
 
 pub visit_list-returns-in_err-cursor : goal.visit_list-returns-in_err-cursor
 visit_list-returns-in_err-cursor t c =
     let p = err_from_is_err_and c.from_residual.result c.from_residual.ensures.1 in
     rw (p.1, p.2)
-    (item_off (read_by c.args.source) c.args.at c.args.task c.args.from c.args.rows.now c.requires.reads c.is_element.result c.is_element.ensures c.if-is_element.false c.raise-levels.result c.raise-levels.ensures c.raise-deeper.result c.raise-deeper.ensures (λ hs p. sym (c.fits.ensures c.args.source.text.now hs p any_list (λ x b q. q.1)) ∙ c.if-not-fits.false) c.element_seat-seat.result.hint (λ hs p. (c.element_seat-seat.ensures.seats 0 0 hs p).hint) c.dispatch.new.rows _ c.in_err-cursor.ensures)
+    (item_off (read_by c.args.source) c.args.at c.args.task c.args.from c.args.rows.now c.requires.reads c.is_element.result c.is_element.ensures c.if-is_element.false c.raise-levels.result c.raise-levels.ensures c.raise-deeper.result c.raise-deeper.ensures (λ hs p. sym (c.fits.ensures c.args.source.hints.text.now hs p any_list (λ x b q. q.1)) ∙ c.if-not-fits.false) c.element_seat-seat.result.hint (λ hs p. (c.element_seat-seat.ensures.seats 0 0 hs p).hint) c.dispatch.new.rows _ c.in_err-cursor.ensures)
 
 pub visit_list-close-requires : goal.visit_list-close-requires
 visit_list-close-requires t c =
@@ -114,7 +110,7 @@ visit_list-close-requires t c =
 
 pub visit_list-returns : goal.visit_list-returns
 visit_list-returns t c =
-    item_done (read_by c.args.source) c.args.at c.args.task c.args.from c.args.rows.now c.requires.reads c.is_element.result c.is_element.ensures c.if-is_element.false c.raise-levels.result c.raise-levels.ensures c.raise-deeper.result c.raise-deeper.ensures (λ hs p. sym (c.fits.ensures c.args.source.text.now hs p any_list (λ x b q. q.1)) ∙ c.if-not-fits.false) c.element_seat-seat.result.hint (λ hs p. (c.element_seat-seat.ensures.seats 0 0 hs p).hint)
+    item_done (read_by c.args.source) c.args.at c.args.task c.args.from c.args.rows.now c.requires.reads c.is_element.result c.is_element.ensures c.if-is_element.false c.raise-levels.result c.raise-levels.ensures c.raise-deeper.result c.raise-deeper.ensures (λ hs p. sym (c.fits.ensures c.args.source.hints.text.now hs p any_list (λ x b q. q.1)) ∙ c.if-not-fits.false) c.element_seat-seat.result.hint (λ hs p. (c.element_seat-seat.ensures.seats 0 0 hs p).hint)
     c.dispatch.new.rows c.close.new.rows c.in_ok-cursor.cursor c.close.result c.in_ok-cursor.ensures (omega arith) c.middle_row-row.result c.middle_row-row.ensures c.close.ensures.wrote
 
 pub visit_map-returns-in_err-check_map : goal.visit_map-returns-in_err-check_map
@@ -128,15 +124,15 @@ visit_map-bounds-source-at-2 t c =
 
 pub visit_map-dispatch-requires : goal.visit_map-dispatch-requires
 visit_map-dispatch-requires t c =
-    let z = key_ready (read_by c.args.source) c.args.at c.args.task c.args.from c.args.rows.now c.requires.reads c.first_hint-parent.result c.first_hint-given.result c.first_hint-parent.ensures c.first_hint-given.ensures c.raise.result c.raise.ensures c.raise-levels.result c.raise-levels.ensures _ c.requires.ready in
+    let z = key_ready (read_by c.args.source) c.args.at c.args.task c.args.from c.args.rows.now c.requires.reads c.first-parent.result c.first-given.result c.first-parent.ensures c.first-given.ensures c.raise.result c.raise.ensures c.raise-levels.result c.raise-levels.ensures _ c.requires.ready in
     let (hs, p) = c.requires.hinted in
-    (omega (arith, c.decreases, z.0), (z.1, (c.requires.hints, (_, key_handed (read_by c.args.source) c.args.at c.args.task c.args.from c.args.rows.now c.requires.reads c.first_hint-parent.result c.first_hint-given.result c.first_hint-parent.ensures c.first_hint-given.ensures c.raise.result c.raise.ensures c.raise-levels.result c.raise-levels.ensures hs p))))
+    (omega (arith, c.decreases, z.0), (z.1, (_, key_handed (read_by c.args.source) c.args.at c.args.task c.args.from c.args.rows.now c.requires.reads c.first-parent.result c.first-given.result c.first-parent.ensures c.first-given.ensures c.raise.result c.raise.ensures c.raise-levels.result c.raise-levels.ensures hs p)))
 
 pub visit_map-returns-in_err-middle : goal.visit_map-returns-in_err-middle
 visit_map-returns-in_err-middle t c =
     let p = err_from_is_err_and c.from_residual-in_err-middle.result c.from_residual-in_err-middle.ensures.1 in
     rw (p.1, p.2)
-    (key_off (read_by c.args.source) c.args.at c.args.task c.args.from c.args.rows.now c.requires.reads c.first_hint-parent.result c.first_hint-given.result c.first_hint-parent.ensures c.first_hint-given.ensures c.raise.result c.raise.ensures c.raise-levels.result c.raise-levels.ensures c.in_ok-check_map.ensures c.dispatch.new.rows _ c.in_err-middle.ensures)
+    (key_off (read_by c.args.source) c.args.at c.args.task c.args.from c.args.rows.now c.requires.reads c.first-parent.result c.first-given.result c.first-parent.ensures c.first-given.ensures c.raise.result c.raise.ensures c.raise-levels.result c.raise-levels.ensures c.in_ok-check_map.ensures c.dispatch.new.rows _ c.in_err-middle.ensures)
 
 pub visit_map-bounds-source-at-3 : goal.visit_map-bounds-source-at-3
 visit_map-bounds-source-at-3 t c =
@@ -150,18 +146,15 @@ visit_map-overflow_add-at-4 t c =
 pub visit_map-dispatch-requires-2 : goal.visit_map-dispatch-requires-2
 visit_map-dispatch-requires-2 t c =
     let (hs, p) = c.requires.hinted in
-    let z = value_ready (read_by c.args.source) c.args.at c.args.task c.args.from c.args.rows.now c.requires.reads c.first_hint-parent.result c.first_hint-given.result c.first_hint-parent.ensures c.first_hint-given.ensures c.raise.result c.raise.ensures c.raise-levels.result c.raise-levels.ensures
-    c.next_hint.result c.next_hint.ensures c.dispatch.new.rows c.in_ok-middle.middle c.in_ok-middle.ensures _ c.requires.ready (omega arith) hs p in (
+    let z = value_ready (read_by c.args.source) c.args.at c.args.task c.args.from c.args.rows.now c.requires.reads c.first-parent.result c.first-given.result c.first-parent.ensures c.first-given.ensures c.raise.result c.raise.ensures c.raise-levels.result c.raise-levels.ensures
+    c.next.result c.next.ensures c.dispatch.new.rows c.in_ok-middle.middle c.in_ok-middle.ensures _ c.requires.ready (omega arith) hs p in (
       omega (arith, c.decreases, z.0),
       (
         z.1,
         (
-          c.requires.hints,
-          (
-            _,
-            value_handed (read_by c.args.source) c.args.at c.args.task c.args.from c.args.rows.now c.requires.reads c.first_hint-parent.result c.first_hint-given.result c.first_hint-parent.ensures c.first_hint-given.ensures c.raise.result c.raise.ensures c.raise-levels.result c.raise-levels.ensures
-                c.next_hint.result c.next_hint.ensures c.dispatch.new.rows c.in_ok-middle.middle c.in_ok-middle.ensures hs p,
-          ),
+          _,
+          value_handed (read_by c.args.source) c.args.at c.args.task c.args.from c.args.rows.now c.requires.reads c.first-parent.result c.first-given.result c.first-parent.ensures c.first-given.ensures c.raise.result c.raise.ensures c.raise-levels.result c.raise-levels.ensures
+              c.next.result c.next.ensures c.dispatch.new.rows c.in_ok-middle.middle c.in_ok-middle.ensures hs p,
         ),
       ),
     )
@@ -170,8 +163,8 @@ pub visit_map-returns-in_err-cursor : goal.visit_map-returns-in_err-cursor
 visit_map-returns-in_err-cursor t c =
     let p = err_from_is_err_and c.from_residual-in_err-cursor.result c.from_residual-in_err-cursor.ensures.1 in
     rw (p.1, p.2)
-    (value_off (read_by c.args.source) c.args.at c.args.task c.args.from c.args.rows.now c.requires.reads c.first_hint-parent.result c.first_hint-given.result c.first_hint-parent.ensures c.first_hint-given.ensures c.raise.result c.raise.ensures c.raise-levels.result c.raise-levels.ensures
-    c.next_hint.result c.next_hint.ensures c.dispatch.new.rows c.in_ok-middle.middle c.in_ok-middle.ensures c.in_ok-check_map.ensures c.dispatch-2.new.rows _ c.in_err-cursor.ensures)
+    (value_off (read_by c.args.source) c.args.at c.args.task c.args.from c.args.rows.now c.requires.reads c.first-parent.result c.first-given.result c.first-parent.ensures c.first-given.ensures c.raise.result c.raise.ensures c.raise-levels.result c.raise-levels.ensures
+    c.next.result c.next.ensures c.dispatch.new.rows c.in_ok-middle.middle c.in_ok-middle.ensures c.in_ok-check_map.ensures c.dispatch-2.new.rows _ c.in_err-cursor.ensures)
 
 pub visit_map-returns-then-middle-from : goal.visit_map-returns-then-middle-from
 visit_map-returns-then-middle-from t c =
@@ -180,21 +173,21 @@ visit_map-returns-then-middle-from t c =
       | visit_map-then-middle-from-via-then-middle-from w ↦ inl w.if-middle-from.true
       | visit_map-then-middle-from-via-else-middle-from+then-cursor-middle w ↦ inr w.if-cursor-middle.true
     ] in
-    half_taken (read_by c.args.source) c.args.at c.args.task c.args.from c.args.rows.now c.requires.reads c.first_hint-parent.result c.first_hint-given.result c.first_hint-parent.ensures c.first_hint-given.ensures c.raise.result c.raise.ensures c.raise-levels.result c.raise-levels.ensures
-    c.next_hint.result c.next_hint.ensures c.dispatch.new.rows c.in_ok-middle.middle c.in_ok-middle.ensures c.in_ok-check_map.ensures
+    half_taken (read_by c.args.source) c.args.at c.args.task c.args.from c.args.rows.now c.requires.reads c.first-parent.result c.first-given.result c.first-parent.ensures c.first-given.ensures c.raise.result c.raise.ensures c.raise-levels.result c.raise-levels.ensures
+    c.next.result c.next.ensures c.dispatch.new.rows c.in_ok-middle.middle c.in_ok-middle.ensures c.in_ok-check_map.ensures
     c.dispatch-2.new.rows c.in_ok-cursor.cursor c.in_ok-cursor.ensures (omega (arith, c.requires.ready.fits)) z
 
 pub visit_map-close-requires : goal.visit_map-close-requires
 visit_map-close-requires t c =
     let (hs, p) = c.requires.hinted in
-    let z = rows_end (read_by c.args.source) c.args.at c.args.task c.args.from c.args.rows.now c.requires.reads c.first_hint-parent.result c.first_hint-given.result c.first_hint-parent.ensures c.first_hint-given.ensures c.raise.result c.raise.ensures c.raise-levels.result c.raise-levels.ensures
-    c.next_hint.result c.next_hint.ensures c.dispatch.new.rows c.in_ok-middle.middle c.in_ok-middle.ensures c.dispatch-2.new.rows c.in_ok-cursor.cursor c.in_ok-cursor.ensures c.requires.ready.root hs p in
+    let z = rows_end (read_by c.args.source) c.args.at c.args.task c.args.from c.args.rows.now c.requires.reads c.first-parent.result c.first-given.result c.first-parent.ensures c.first-given.ensures c.raise.result c.raise.ensures c.raise-levels.result c.raise-levels.ensures
+    c.next.result c.next.ensures c.dispatch.new.rows c.in_ok-middle.middle c.in_ok-middle.ensures c.dispatch-2.new.rows c.in_ok-cursor.cursor c.in_ok-cursor.ensures c.requires.ready.root hs p in
     (omega (arith, z.0, z.1), omega (arith, c.requires.ready.fits))
 
 pub visit_map-returns : goal.visit_map-returns
 visit_map-returns t c =
-    taken (read_by c.args.source) c.args.at c.args.task c.args.from c.args.rows.now c.requires.reads c.first_hint-parent.result c.first_hint-given.result c.first_hint-parent.ensures c.first_hint-given.ensures c.raise.result c.raise.ensures c.raise-levels.result c.raise-levels.ensures
-    c.next_hint.result c.next_hint.ensures c.dispatch.new.rows c.in_ok-middle.middle c.in_ok-middle.ensures c.in_ok-check_map.ensures
+    taken (read_by c.args.source) c.args.at c.args.task c.args.from c.args.rows.now c.requires.reads c.first-parent.result c.first-given.result c.first-parent.ensures c.first-given.ensures c.raise.result c.raise.ensures c.raise-levels.result c.raise-levels.ensures
+    c.next.result c.next.ensures c.dispatch.new.rows c.in_ok-middle.middle c.in_ok-middle.ensures c.in_ok-check_map.ensures
     c.dispatch-2.new.rows c.in_ok-cursor.cursor c.in_ok-cursor.ensures c.if-middle-from.false c.if-cursor-middle.false
     c.close.new.rows c.close.result (omega arith) c.map_row-row.result c.map_row-row.ensures c.close.ensures.wrote
 
@@ -217,7 +210,7 @@ visit_struct-visit_fields-requires t c = (
   omega (arith, c.decreases),
   (
     within_ready (read_by c.args.source) c.args.at c.args.seat c.args.from (length c.args.rows.now) c.raise-levels.result c.head_of.result c.requires.ready c.raise-levels.ensures c.head_of.ensures,
-    (c.requires.hints, within_hinted (read_by c.args.source) c.args.at c.args.seat c.args.from c.args.rows.now c.args.rows.now c.requires.kind.0 c.requires.kind.1 c.is_wrapped-wrapped.result c.is_wrapped-wrapped.ensures c.in_ok-hint.hint c.in_ok-hint.ensures c.requires.hinted),
+    within_hinted (read_by c.args.source) c.args.at c.args.seat c.args.from c.args.rows.now c.args.rows.now c.requires.kind.0 c.requires.kind.1 c.is_wrapped-wrapped.result c.is_wrapped-wrapped.ensures c.in_ok-hint.hint c.in_ok-hint.ensures c.requires.hinted,
   ),
 )
 
@@ -226,11 +219,11 @@ visit_struct-returns-in_err-cursor t c =
     let p = err_from_is_err_and c.from_residual-in_err-cursor.result c.from_residual-in_err-cursor.ensures.1 in
     rw (p.1, p.2) (struct_broken (read_by c.args.source) c.args.at c.args.seat c.args.from c.args.rows.now c.visit_fields.new.rows c.requires.kind.0 c.requires.kind.1 c.is_wrapped-wrapped.result c.is_wrapped-wrapped.ensures c.in_ok-hint.hint c.in_ok-hint.ensures c.in_ok-check_struct.ensures c.raise-levels.result c.raise-levels.ensures c.head_of.result c.head_of.ensures _ c.in_err-cursor.ensures)
 
-pub visit_struct-close_struct-requires : goal.visit_struct-close_struct-requires
-visit_struct-close_struct-requires t c =
+pub visit_struct-close_struct-requires-clause-past : goal.visit_struct-close_struct-requires-clause-past
+visit_struct-close_struct-requires-clause-past t c =
     let p = within_past (read_by c.args.source) c.args.at c.args.seat c.args.from (length c.args.rows.now) c.requires.ready c.in_ok-hint.hint (within_hinted (read_by c.args.source) c.args.at c.args.seat c.args.from c.args.rows.now c.args.rows.now c.requires.kind.0 c.requires.kind.1 c.is_wrapped-wrapped.result c.is_wrapped-wrapped.ensures c.in_ok-hint.hint c.in_ok-hint.ensures c.requires.hinted)
     c.raise-levels.result (record { row = c.head_of.result + 1; leaf = c.args.from.leaf }) c.in_ok-cursor.cursor c.args.rows.now c.visit_fields.new.rows c.in_ok-cursor.ensures in
-    record { room = omega (arith, c.requires.ready.fits, c.visit_fields.auto.rows); past = omega (arith, p, c.head_of.ensures) }
+    omega (arith, p, c.head_of.ensures)
 
 pub visit_struct-returns : goal.visit_struct-returns
 visit_struct-returns t c =

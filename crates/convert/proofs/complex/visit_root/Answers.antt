@@ -1,5 +1,6 @@
 use Rattle.std.proofs.lemmas.Result.{err_from_is_err_and}
 use Rattle.convert.specs.Visit.{read_by}
+use Rattle.convert.proofs.Uniques.{whole}
 use Rattle.convert.proofs.Whole.{root_ready, root_kind, root_hinted, root_done, root_refused}
 use Rattle.convert.proofs.complex.visit_root.Goals as goal
 
@@ -10,8 +11,7 @@ visit_struct-requires c =
     let e = c.root_seat-seat.ensures in
     record {
       ready = root_ready s t.0 t.1 _ c.requires.room c.root_seat-seat.result.levels e.levels;
-      hints = c.requires.hints;
-      hinted = root_hinted s c.root_seat-seat.result e.levels e.above e.seats c.args.rows.now c.args.rows.now c.requires.hints;
+      hinted = root_hinted s c.root_seat-seat.result e.levels e.above e.seats c.args.rows.now c.args.rows.now (whole c.args.source.hints.whole);
       kind = root_kind s t.0 t.1;
     }
 

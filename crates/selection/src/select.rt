@@ -58,7 +58,7 @@ impl<'c, 'f> Selection for Roots<'c, 'f> {
 }
 
 // The leaves of one selection or the other. `either` says so of each number.
-// (`Both` is as long: one type over the two operations would hide `||` and `&&` in a parameter.)
+// (`Both` differs in the operation alone, but a type over either operation would hide `||` and `&&` in a parameter.)
 #[derive(Drop)]
 pub struct Either<P, Q>(pub P, pub Q);
 

@@ -110,7 +110,7 @@ all_taken bytes (plant e below after) m x a =
     all_right (x ∷ xs) ys a = all_right xs ys a.1
 
 pub tree_from_steps : (bytes : ℕ) (rows : List Element) → rows_kept bytes rows ≡ true → IsSchema bytes rows
-tree_from_steps bytes [] k = let z : ◌≡◌ {A = ℕ} 0 1 = cc in absurd (omega arith)
+tree_from_steps bytes [] k = cc
 tree_from_steps bytes (e ∷ es) k =
     let p = and_parts (leb (length es) 4095 && root_kept bytes e) (rest_kept bytes e es) k in
     let q = and_parts (leb (length es) 4095) (root_kept bytes e) p.0 in

@@ -1,7 +1,8 @@
 -- The steps of the loops over rows: which rows are a schema, and their sizes.
 use Rattle.std.proofs.Common.{◌≡◌, ℕ, zero, suc, ◌+◌, ◌<◌, ◌≤◌, Bool, true, false, cond, ◌&&◌, eqb, ltb, List, [], ◌∷◌, ◌++◌, length, get_or, take, drop, set, sym, refl, ap, ◌∙◌, subst, ap₂, inl, inr, add-one, arith}
+use Rattle.std.proofs.Math.Bool.{and-true}
 use Rattle.std.proofs.lemmas.Bool.{cond-true, cond-false, lt-ltb, le-ltb, le-leb, and_right, and_from, and_parts, eqb-true, eq-eqb, cases_lt}
-use Rattle.std.proofs.lemmas.List.{drop_more, drop_all, at_drop_more, length-map, length-drop, drop-drop}
+use Rattle.std.proofs.lemmas.List.{drop_more, at_drop_more, length-map, length-drop, drop-drop}
 use Rattle.std.specs.Bool.{MatchBool}
 use Rattle.std.specs.List.{zip, AllWithin, HoldsAt}
 use Rattle.schema.specs.declared.element.Element.{Element}
@@ -99,13 +100,6 @@ module _ (xs : List Element) (j d : ℕ) (h : j < length xs) (known : Known (dro
       sym (depths_drop (deeper here.depth rest) (drop (j + 1) xs)) ∙ ap depths_of (drop-drop (deeper here.depth rest) (j + 1) xs ∙ ap (λ m. drop m xs) (omega (arith, n))) in
       omega (arith, a, b, ap (deeper d) c, size_known)
 
--- where the run ends
-pub run_stops : (xs : List Element) (j d : ℕ) → j < length xs → (get_or xs j empty).depth ≤ d → deeper d (depths_of (drop j xs)) ≡ 0
-run_stops xs j d h l = ap (λ ys. deeper d (depths_of ys)) (drop_more xs j empty h) ∙ cond-false (ltb d (get_or xs j empty).depth) _ _ (le-ltb d (get_or xs j empty).depth l)
-
-pub run_ends : (xs : List Element) (j d : ℕ) → length xs ≤ j → deeper d (depths_of (drop j xs)) ≡ 0
-run_ends xs j d h = ap (λ ys. deeper d (depths_of ys)) (drop_all j xs h)
-
 depths_sized : (xs : List Element) → depths_of (sized xs) ≡ depths_of xs
 depths_sized [] = refl
 depths_sized (x ∷ xs) = ap (λ ys. x.depth ∷ ys) (depths_sized xs)
@@ -179,8 +173,4 @@ pub sizes_step : (i : ℕ) (xs : List Element) → i < length xs → sizes_kept 
 sizes_step i xs h e =
     at_drop_more sizes_kept xs i empty h
     ∙ ap (λ b. eqb (get_or xs i empty).size (deeper (get_or xs i empty).depth (depths_of (drop (i + 1) xs)) + 1) && b) e
-    ∙ and_true (eqb (get_or xs i empty).size (deeper (get_or xs i empty).depth (depths_of (drop (i + 1) xs)) + 1))
-  where
-    and_true : (b : Bool) → (b && true) ≡ b
-    and_true true = refl
-    and_true false = refl
+    ∙ and-true (eqb (get_or xs i empty).size (deeper (get_or xs i empty).depth (depths_of (drop (i + 1) xs)) + 1))

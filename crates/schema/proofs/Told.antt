@@ -2,7 +2,7 @@
 use Rattle.std.proofs.Common.{◌≡◌, ℕ, ◌+◌, ◌<◌, ◌≤◌, Bool, true, false, cond, not, ◌&&◌, ◌||◌, eqb, ltb, leb, List, [], ◌∷◌, ◌++◌, map, length, take, drop, set, ℤ, is_some, is_none, is_ok, Some, None, Ok, Err, Decides, Option, Result, sym, refl, ap, ◌∙◌, subst, arith}
 use Rattle.std.specs.List.{AllByRecursion}
 use Rattle.std.proofs.lemmas.List.{drop-take, take-take, take-append-le, take_at, drop_at, length-take-le, length-take, length-set, take_more_set, map_push, length-append, length-drop}
-use Rattle.std.proofs.lemmas.Bool.{and_parts, and_from, or_from, leb-true, leb-false, ltb-false, le-leb, le-ltb, eq-eqb, ne_eqb, cond-true, cond-false}
+use Rattle.std.proofs.lemmas.Bool.{not-true, not-false, and_parts, or_parts, and_from, or_from, leb-true, leb-false, ltb-false, le-leb, le-ltb, eq-eqb, ne_eqb, cond-true, cond-false}
 use Rattle.schema.specs.declared.basic.Annotation.{Annotation}
 use Rattle.schema.specs.declared.basic.Repetition.{Repetition}
 use Rattle.schema.specs.declared.draft.Draft.{Draft}
@@ -39,13 +39,13 @@ and4 false q r s x y f h = h
 
 last3 : (p q r x : Bool) → (p && (q && (r && x))) ≡ true → x ≡ true
 last3 true true true x h = h
-last3 true true false x h = let z : ◌≡◌ {A = ℕ} 0 1 = cc in absurd (omega arith)
-last3 true false r x h = let z : ◌≡◌ {A = ℕ} 0 1 = cc in absurd (omega arith)
-last3 false q r x h = let z : ◌≡◌ {A = ℕ} 0 1 = cc in absurd (omega arith)
+last3 true true false x h = cc
+last3 true false r x h = cc
+last3 false q r x h = cc
 
 last4 : (p q r s x : Bool) → (p && (q && (r && (s && x)))) ≡ true → x ≡ true
 last4 true q r s x h = last3 q r s x h
-last4 false q r s x h = let z : ◌≡◌ {A = ℕ} 0 1 = cc in absurd (omega arith)
+last4 false q r s x h = cc
 
 module _ (u v : ℕ) (h : u ≤ v) where
   inside_more : (e : Element) → named_inside u e ≡ true → named_inside v e ≡ true
@@ -97,7 +97,7 @@ rest_push u v h before (x ∷ es) e k n =
     and_from (next_kept v before x) (rest_kept v x (es ++ e ∷ [])) (and_from (may_follow before x) (row_kept v x) q.0 (row_more u v h x q.1)) (rest_push u v h x es e p.1 n)
 
 rows_push : (u v : ℕ) → u ≤ v → (es : List Element) (e : Element) → rows_kept u es ≡ true → length es < 4096 → next_kept v (last_row es) e ≡ true → rows_kept v (es ++ e ∷ []) ≡ true
-rows_push u v h [] e k l n = let z : ◌≡◌ {A = ℕ} 0 1 = cc in absurd (omega arith)
+rows_push u v h [] e k l n = cc
 rows_push u v h (x ∷ es) e k l n =
     let p = and_parts (leb (length es) 4095 && root_kept u x) (rest_kept u x es) k in
     let q = and_parts (leb (length es) 4095) (root_kept u x) p.0 in
@@ -239,20 +239,12 @@ length_fewer (x ∷ os) n e = omega (arith, e)
 -- What an accepted call was not refused for.
 
 not_first : (b : Bool) (x : Refusal) (o : Option Refusal) → None ≡ first b x o → (b ≡ false) × (None ≡ o)
-not_first true x o e = let z : ◌≡◌ {A = ℕ} 0 1 = cc in absurd (omega arith)
+not_first true x o e = cc
 not_first false x o e = (refl, e)
 
 not_or_else : (o p : Option Refusal) → None ≡ or_else o p → (None ≡ o) × (None ≡ p)
 not_or_else None p e = (refl, e)
-not_or_else (Some x) p e = let z : ◌≡◌ {A = ℕ} 0 1 = cc in absurd (omega arith)
-
-or_false : (x y : Bool) → (x || y) ≡ false → (x ≡ false) × (y ≡ false)
-or_false true y e = let z : ◌≡◌ {A = ℕ} 0 1 = cc in absurd (omega arith)
-or_false false y e = (refl, e)
-
-not_false : (b : Bool) → not b ≡ false → b ≡ true
-not_false true e = refl
-not_false false e = sym e
+not_or_else (Some x) p e = cc
 
 -- so many elements, and so deep, that one more may be spelled
 spelt_room : (name : List ℕ) (d : Draft) (els : List Element) (ns : List ℕ) → None ≡ spell_refusal name d els ns → (d.count < 4096) × (d.groups ≤ 64)
@@ -260,7 +252,7 @@ spelt_room name d els ns e =
     let p = not_first (short d.count d.bytes els ns) no.Memory _ e in
     let q = not_first (no_room d.count els) no.ElementsFull _ p.1 in
     let r = not_first (ltb 64 d.groups) no.TooDeep _ q.1 in
-    let s = or_false (leb (length els) d.count) (leb 4096 d.count) q.0 in
+    let s = or_parts (leb (length els) d.count) (leb 4096 d.count) q.0 in
     (leb-false 4096 d.count s.1, ltb-false 64 d.groups r.0)
 
 -- Call by call.
@@ -316,7 +308,7 @@ module _ (w : Words) {d : Draft} {els : List Element} {ns : List ℕ} {d' : Draf
       let s = o.after.1 in
       let parts = not_or_else (spell_refusal name d els ns) _ o.answer in
       let room = spelt_room name d els ns parts.0 in
-      let leaf : keeps_leaf_rules l ≡ true = not_false (keeps_leaf_rules l) (not_first (not (keeps_leaf_rules l)) no.LeafRule None parts.1).0 in
+      let leaf : keeps_leaf_rules l ≡ true = not-false (keeps_leaf_rules l) (not_first (not (keeps_leaf_rules l)) no.LeafRule None parts.1).0 in
       record {
         fits = spelt_fits s;
         room = omega (arith, s.room, spelt_long s);
@@ -443,9 +435,9 @@ finish_law {h} {d} {els} {ns} {r} {els'} p o =
 pub finish_means : {d : Draft} {els : List Element} {ns : List ℕ} (r : Result Schema (Draft × Refusal)) {els' : List Element} → Finished d els ns r els' → FinishMeans d els ns r els'
 finish_means {d} {els} {ns} (Ok s) {els'} o =
     let p = not_first (short d.count d.bytes els ns || not (rows_kept d.bytes (take d.count els))) no.Memory _ o.answer in
-    let q = or_false (short d.count d.bytes els ns) (not (rows_kept d.bytes (take d.count els))) p.0 in
-    let long = ltb-false (length els) d.count (or_false (ltb (length els) d.count) (ltb (length ns) d.bytes) q.0).0 in
-    let tree = tree_from_steps d.bytes (take d.count els) (not_false _ q.1) in
+    let q = or_parts (short d.count d.bytes els ns) (not (rows_kept d.bytes (take d.count els))) p.0 in
+    let long = ltb-false (length els) d.count (or_parts (ltb (length els) d.count) (ltb (length ns) d.bytes) q.0).0 in
+    let tree = tree_from_steps d.bytes (take d.count els) (not-false _ q.1) in
     let z = sized_tree d.bytes (take d.count els) tree in
     let rows = whole_rows o.after long in
     (tree, (z.0, rw (rows, o.after.bytes) z.1, rw rows z.2))
@@ -456,8 +448,8 @@ finish_means {d} {els} {ns} (Err e) {els'} o = λ is fits room tree.
     not_memory (not (eqb d.groups 1)) (ap Some (sym is) ∙ got)
   where
     not_memory : (b : Bool) → Some no.Memory ≡ first b no.GroupOpen None → ⊥
-    not_memory true x = let z : ◌≡◌ {A = ℕ} 0 1 = cc in omega arith
-    not_memory false x = let z : ◌≡◌ {A = ℕ} 0 1 = cc in omega arith
+    not_memory true x = cc
+    not_memory false x = cc
 
 -- Lent memory.
 
@@ -465,7 +457,7 @@ pub memory_decides : (s : Schema) (els : List Element) (ns : List ℕ) (r : Bool
 memory_decides s els ns r e = (
   (λ t.
       let p = and_parts (not (short s.count s.bytes els ns)) (finished_kept s.bytes (take s.count els)) (sym e ∙ t) in
-      let q = or_false (ltb (length els) s.count) (ltb (length ns) s.bytes) (not_true (short s.count s.bytes els ns) p.0) in
+      let q = or_parts (ltb (length els) s.count) (ltb (length ns) s.bytes) (not-true (short s.count s.bytes els ns) p.0) in
       record {
         fits = ltb-false (length els) s.count q.0;
         room = ltb-false (length ns) s.bytes q.1;
@@ -476,10 +468,6 @@ memory_decides s els ns r e = (
       (ap not (or_from _ _ (le-ltb (length els) s.count m.fits) (le-ltb (length ns) s.bytes m.room)))
       (kept_from_finished s.bytes (take s.count els) m.tree)),
 )
-  where
-    not_true : (b : Bool) → not b ≡ true → b ≡ false
-    not_true true x = sym x
-    not_true false x = refl
 
 pub memory_law : {h : List Event} {s : Schema} {els : List Element} {ns : List ℕ} → Reached h (whole s) els ns → (r : Bool) → r ≡ memory_kept s els ns → r ≡ true
 memory_law {h} {s} {els} {ns} p r e =

@@ -1,5 +1,5 @@
 // What a line of a script asks for.
-use crate::hints::{read_type, HintLine};
+use crate::hints::{HintLine, read_type};
 use crate::words::{OrNone, Words, number};
 use schema::{Annotation, ConvertedType, Leaf, LogicalType, PhysicalType, Repetition};
 

@@ -1,6 +1,7 @@
 // Hint rows: how a script spells them, and how they are printed.
 use crate::show::Text;
 use arrow::{ArrowType, HintRow, IntervalUnit, TextPlace, TimeUnit, Zone, check_hints};
+use schema::Refusal;
 use std::alloc::{AllocError, Global};
 use std::fmt;
 
@@ -265,10 +266,14 @@ impl Hints {
         }
     }
 
-    // Gives the open rows the sizes that they have so far, and says whether the rows are a hint.
-    pub fn check(&mut self) -> bool {
+    // Gives the open rows the sizes that they have so far, and refuses rows that are no hint.
+    pub fn check(&mut self) -> Result<(), Refusal> {
         self.size_rows(0);
-        check_hints(&self.rows, &self.text)
+        if check_hints(&self.rows, &self.text) {
+            Ok(())
+        } else {
+            Err(Refusal::Hint)
+        }
     }
 
     // The rows as text, each with its size.

@@ -2,6 +2,7 @@
 #![tactic(auto)]
 
 mod command;
+mod failure;
 mod hints;
 mod run;
 mod session;
@@ -9,6 +10,7 @@ mod show;
 mod words;
 
 pub use command::{Command, Line, Select};
+pub use failure::Failure;
 pub use hints::{HintLine, HintType};
 pub use run::run_program;
 pub use session::{Answer, Session};

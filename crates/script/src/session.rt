@@ -1,9 +1,11 @@
 // A run of commands over memory of its own.
-ghost use Rattle.std.specs.Prelude.{◌≡◌, length};
+ghost use Rattle.std.specs.Prelude.{◌≡◌, length, OnErr, Some};
 ghost use Rattle.columns.specs.Levels.{leaves_of};
 ghost use Rattle.script.specs.declared.session.Answer.TheVariants.{Finished};
+ghost use Rattle.script.specs.declared.session.Stage.TheVariants.{Drafting};
 
 use crate::command::{Command, Line, Select};
+use crate::failure::Failure;
 use crate::hints::Hints;
 use crate::show::{ColumnRow, Row, Text};
 use crate::words::{Words, number};
@@ -26,7 +28,7 @@ enum Stage {
     Finished(Schema),
 }
 
-// What came of a command.
+// What a command did.
 #[derive(Clone, Copy)]
 pub enum Answer {
     Begun,
@@ -36,15 +38,8 @@ pub enum Answer {
     Listed { columns: usize },
     Hinted { row: usize },
     Hints { rows: usize },
-    // the program has no more memory for hint rows
-    Short,
     SelectedAll,
     Selected { flagged: usize },
-    Refused(Refusal),
-    NoDraft,
-    NoSchema,
-    NotThereYet,
-    NotUnderstood,
 }
 
 // Which leaves are selected: all, those flagged, or those below flagged children of the root.
@@ -101,15 +96,15 @@ impl Session {
             Line::Blank => Ok(String::new(heap)),
             Line::Rule => String::from_str(heap, "---\n"),
             Line::Command(command) => {
-                let answer = self.run(command);
-                self.reply(heap, line, answer)
+                let outcome = self.run(command);
+                self.reply(heap, line, outcome)
             }
-            Line::Other => self.reply(heap, line, Answer::NotUnderstood),
+            Line::Other => self.reply(heap, line, Err(Failure::NotUnderstood)),
         }
     }
 
     // Runs one command.
-    pub fn run(&mut self, command: Command<'_>) -> Answer {
+    pub fn run(&mut self, command: Command<'_>) -> Result<Answer, Failure> {
         match command {
             Command::Begin { field_id, name } => self.begin(name, field_id),
             Command::Open {
@@ -131,106 +126,97 @@ impl Session {
             Command::Close => self.close(),
             Command::Finish => self.finish(),
             Command::List => self.list(),
-            Command::Hint(line) => match self.hints.push(line) {
-                Ok(row) => Answer::Hinted { row },
-                Err(_) => Answer::Short,
-            },
+            Command::Hint(line) => Ok(Answer::Hinted {
+                row: self.hints.push(line)?,
+            }),
             Command::Hints => self.check_hints(),
-            Command::Select(Select::All) => self.select_all(),
-            Command::Select(Select::Leaves(numbers)) => self.select(Selected::Leaves, numbers),
-            Command::Select(Select::Roots(numbers)) => self.select(Selected::Roots, numbers),
-            Command::Planned => Answer::NotThereYet,
+            Command::Select(Select::All) => Ok(self.select_all()),
+            Command::Select(Select::Leaves(numbers)) => Ok(self.select(Selected::Leaves, numbers)),
+            Command::Select(Select::Roots(numbers)) => Ok(self.select(Selected::Roots, numbers)),
+            Command::Planned => Err(Failure::NotThereYet),
         }
     }
 
-    fn begin(&mut self, name: &[u8], field_id: Option<i32>) -> Answer {
-        match Draft::begin(&mut self.elements, &mut self.names, name, field_id) {
-            Ok(draft) => {
-                self.stage = Some(Stage::Drafting(draft));
-                self.selected = Selected::All;
-                self.hints.clear();
-                Answer::Begun
-            }
-            Err(refusal) => Answer::Refused(refusal),
-        }
+    fn begin(&mut self, name: &[u8], field_id: Option<i32>) -> Result<Answer, Failure> {
+        let draft = Draft::begin(&mut self.elements, &mut self.names, name, field_id)?;
+        self.stage = Some(Stage::Drafting(draft));
+        self.selected = Selected::All;
+        self.hints.clear();
+        Ok(Answer::Begun)
     }
 
     // Runs a call that spells an element, and tells its number and depth.
-    fn spell<F>(&mut self, call: F) -> Answer
+    fn spell<F>(&mut self, call: F) -> Result<Answer, Failure>
     where
         F: FnOnce(&mut Draft, &mut [Element], &mut [u8]) -> Result<usize, Refusal>,
         requires { F.IsAlwaysCallable call }
     {
         let Some(Stage::Drafting(draft)) = &mut self.stage else {
-            return Answer::NoDraft;
+            return Err(Failure::NoDraft);
         };
         let depth = draft.open_groups();
-        match call(draft, &mut self.elements, &mut self.names) {
-            Ok(element) => Answer::Spelled { element, depth },
-            Err(refusal) => Answer::Refused(refusal),
-        }
+        let element = call(draft, &mut self.elements, &mut self.names)?;
+        Ok(Answer::Spelled { element, depth })
     }
 
-    fn close(&mut self) -> Answer {
+    fn close(&mut self) -> Result<Answer, Failure> {
         let Some(Stage::Drafting(draft)) = &mut self.stage else {
-            return Answer::NoDraft;
+            return Err(Failure::NoDraft);
         };
-        match draft.close() {
-            Ok(()) => Answer::Closed {
-                open: draft.open_groups(),
-            },
-            Err(refusal) => Answer::Refused(refusal),
-        }
+        draft.close()?;
+        Ok(Answer::Closed {
+            open: draft.open_groups(),
+        })
     }
 
-    fn finish(&mut self) -> Answer {
+    fn finish(&mut self) -> Result<Answer, Failure>
+        ensures kept { OnErr result (self.new.stage ≡ self.old.stage) }
+    {
         match self.stage.take() {
             Some(Stage::Drafting(draft)) => self.finish_draft(draft),
             other => {
                 self.stage = other;
-                Answer::NoDraft
+                Err(Failure::NoDraft)
             }
         }
     }
 
-    fn finish_draft(&mut self, draft: Draft) -> Answer {
+    // Refused, the draft is put back.
+    fn finish_draft(&mut self, draft: Draft) -> Result<Answer, Failure>
+        ensures kept { OnErr result (self.new.stage ≡ Some (Drafting draft)) }
+    {
         match draft.finish(&mut self.elements, &self.names) {
             Ok(schema) => {
                 self.stage = Some(Stage::Finished(schema));
-                finished(self.rows())
+                Ok(finished(self.rows()))
             }
             Err((draft, refusal)) => {
                 self.stage = Some(Stage::Drafting(draft));
-                Answer::Refused(refusal)
+                Err(refusal.into())
             }
         }
     }
 
-    fn list(&mut self) -> Answer {
+    fn list(&mut self) -> Result<Answer, Failure> {
         let Some(Stage::Finished(schema)) = &self.stage else {
-            return Answer::NoSchema;
+            return Err(Failure::NoSchema);
         };
-        match list(
+        let columns = list(
             schema,
             &self.elements,
             &self.names,
             &mut self.columns,
             &mut self.paths,
             &mut self.walked,
-        ) {
-            Ok(columns) => Answer::Listed { columns },
-            Err(refusal) => Answer::Refused(refusal),
-        }
+        )?;
+        Ok(Answer::Listed { columns })
     }
 
-    fn check_hints(&mut self) -> Answer {
-        if self.hints.check() {
-            Answer::Hints {
-                rows: self.hints.len(),
-            }
-        } else {
-            Answer::Refused(Refusal::Hint)
-        }
+    fn check_hints(&mut self) -> Result<Answer, Failure> {
+        self.hints.check()?;
+        Ok(Answer::Hints {
+            rows: self.hints.len(),
+        })
     }
 
     fn select_all(&mut self) -> Answer {
@@ -261,8 +247,17 @@ impl Session {
     }
 
     // The line as read and its answer, and the table that follows it.
-    fn reply(&self, heap: Global, line: &[u8], answer: Answer) -> Result<String, AllocError> {
-        let mut text = format!(in heap; "{}: {}\n", Text(line), answer)?;
+    fn reply(
+        &self,
+        heap: Global,
+        line: &[u8],
+        outcome: Result<Answer, Failure>,
+    ) -> Result<String, AllocError> {
+        let answer = match outcome {
+            Ok(answer) => answer,
+            Err(failure) => return format!(in heap; "{}: {failure}\n", Text(line)),
+        };
+        let mut text = format!(in heap; "{}: {answer}\n", Text(line))?;
         match answer {
             Answer::Finished { .. } => self.push_rows(heap, &mut text)?,
             Answer::Listed { columns } => self.push_columns(heap, &mut text, columns)?,
@@ -297,10 +292,7 @@ impl Session {
         for number in Words::new(line).filter_map(number::<usize>) {
             let row = match self.flags.get(number) {
                 Some(true) => format!(in heap; "  flag {number}\n")?,
-                _ => format!(in heap;
-                    "  flag {number}: {}\n",
-                    Answer::Refused(Refusal::FlagOutside)
-                )?,
+                _ => format!(in heap; "  flag {number}: {}\n", Refusal::FlagOutside)?,
             };
             text.push_str(row.as_str())?;
         }

@@ -2,6 +2,7 @@
 ghost use Rattle.std.specs.Prelude.{◌≡◌};
 ghost use Rattle.script.specs.Spelling.{repetition_word, annotation_word, physical_word};
 
+use crate::failure::Failure;
 use crate::session::Answer;
 use columns::Column;
 use schema::{Annotation, Element, Kind, PhysicalType, Repetition};
@@ -33,17 +34,24 @@ impl fmt::Display for Answer {
                 f,
                 "{elements} elements, {leaves} leaves"
             ),
-            Answer::Refused(refusal) => write!(f, "{refusal}"),
             Answer::Listed { columns } => write!(f, "{columns} columns"),
             Answer::Selected { flagged } => write!(f, "{flagged} flagged"),
             Answer::Hinted { row } => write!(f, "row {row}"),
             Answer::Hints { rows } => write!(f, "{rows} rows"),
-            Answer::Short => f.write_str("out of memory"),
             Answer::SelectedAll => f.write_str("all leaves"),
-            Answer::NoDraft => f.write_str("no draft"),
-            Answer::NoSchema => f.write_str("no schema"),
-            Answer::NotThereYet => f.write_str("not there yet"),
-            Answer::NotUnderstood => f.write_str("not understood"),
+        }
+    }
+}
+
+impl fmt::Display for Failure {
+    fn fmt<W: fmt::Write>(&self, f: &mut fmt::Formatter<W>) -> fmt::Result {
+        match *self {
+            Failure::Refused(refusal) => write!(f, "{refusal}"),
+            Failure::OutOfMemory => f.write_str("out of memory"),
+            Failure::NoDraft => f.write_str("no draft"),
+            Failure::NoSchema => f.write_str("no schema"),
+            Failure::NotThereYet => f.write_str("not there yet"),
+            Failure::NotUnderstood => f.write_str("not understood"),
         }
     }
 }

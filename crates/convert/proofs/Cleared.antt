@@ -1,10 +1,10 @@
 -- A conversion's tables, before and after they are cleared.
-use Rattle.std.proofs.Common.{◌≡◌, ℕ, ◌-◌, ◌*◌, ◌/◌, ◌<◌, ◌≤◌, Bool, true, false, ◌&&◌, ltb, List, ◌++◌, map, length, take, drop, replicate, Some, None, Ok, Err, Decides, Option, Result, sym, refl, ap, ◌∙◌, subst, ap₂, arith}
+use Rattle.std.proofs.Common.{◌≡◌, ℕ, ◌-◌, ◌*◌, ◌/◌, ◌<◌, ◌≤◌, Bool, true, false, ◌&&◌, ltb, List, ◌++◌, map, length, take, drop, replicate, None, Ok, Err, Decides, Option, Result, sym, refl, ap, ◌∙◌, subst, ap₂, arith}
 use borrow.Rule.Slice.PartMut.{put_mid}
 use Rattle.std.specs.List.{range_with_len}
 use Rattle.std.specs.Result.{is_err, result_unwrap_or}
 use Rattle.std.proofs.lemmas.List.FromFn.{fill_by_all}
-use Rattle.std.proofs.lemmas.Bool.{both_ways, le-ltb, lt-ltb, or_from, or_left, or_right}
+use Rattle.std.proofs.lemmas.Bool.{le-ltb, lt-ltb, or_from}
 use Rattle.tree.specs.Forest.{Forest, alone, count, listing}
 use Rattle.schema.specs.declared.draft.Schema.{Schema}
 use Rattle.schema.specs.declared.element.Element.{Element}
@@ -46,14 +46,6 @@ pub walks_fit : (s : Input) (after : List ResultRow) (r : Result ℕ Refusal) �
 walks_fit s after r w t h = front_fits s.names (walk_under s.text h.0 (in_flags s.flags) (shown_tree s.names t.1.0)) after r (w t.0 t.1 h.0 h.1)
 
 -- ── Chosen leaves ──
-
--- flags that could not be chosen are too short
-pub refused_short : (n m : ℕ) (e : Refusal) → Some e ≡ first (ltb n m) no.Table None → (ltb n m ≡ true) × (e ≡ no.Table)
-refused_short n m e q = go (ltb n m) q
-  where
-    go : (b : Bool) → Some e ≡ first b no.Table None → (b ≡ true) × (e ≡ no.Table)
-    go true p = (refl, cc)
-    go false p = absurd cc
 
 pub accepted_long : (n m : ℕ) → ◌≡◌ {A = Option Refusal} None (first (ltb n m) no.Table None) → ltb n m ≡ false
 accepted_long n m q = go (ltb n m) q
@@ -139,27 +131,10 @@ pub lent_on : (els : List Element) (n m : ℕ) → n ≡ m → take (n - 0) els 
 lent_on els n m e = ap (λ (k : ℕ). take k els) (let z : n - 0 ≡ m = omega (arith, e) in z)
 
 module _ (s : Schema) (els : List Element) (ns : List ℕ) (set : ℕ → Bool) (hints : List HintRow) (text : List ℕ) (room flag_room : ℕ) where
-  pub step_hint : (rows : List ResultRow) (flags : List Bool) → true ≡ memory_kept s els ns → Decides false (IsHint (length text) hints)
-      → Uncleared (conversion s els ns set hints text room flag_room (Err no.Hint) rows flags)
-  step_hint rows flags k d = no_hint (sym k) (λ h. both_ways false refl (d.1 h)) refl
-
   module _ (k : true ≡ memory_kept s els ns) (d : Decides true (IsHint (length text) hints)) (n : ℕ) (e : n ≡ s.count) where
-    pub step_room : (rows : List ResultRow) (flags : List Bool) → room / 2 < n → Uncleared (conversion s els ns set hints text room flag_room (Err no.Table) rows flags)
-    step_room rows flags h =
-        no_room (sym k) (d.0 refl)
-        (or_left (ltb room (2 * s.count)) (ltb flag_room (length (leaves_of (take s.count els)))) (lt-ltb room (2 * s.count) (omega (arith, e)))) refl
-
     module _ (flags flags' : List Bool) (many : length flags ≡ flag_room) (m : ℕ) (c : m ≡ length (leaves_of (take (n - 0) els))) where
       counts : m ≡ length (leaves_of (take s.count els))
       counts = c ∙ ap (λ (l : List Element). length (leaves_of l)) (lent_on els n s.count e)
-
-      pub step_flags : (r : Result ℕ Refusal) (rows : List ResultRow) (x : Refusal) → r ≡ Err x → Chosen set m flags (Err x) flags'
-          → Uncleared (conversion s els ns set hints text room flag_room r rows flags')
-      step_flags r rows x q o =
-          let t = refused_short (length flags) m x o.answer in
-          no_room (sym k) (d.0 refl)
-          (or_right (ltb room (2 * s.count)) (ltb flag_room (length (leaves_of (take s.count els)))) (sym (ap₂ ltb many counts) ∙ t.0))
-          (q ∙ ap {B = Result ℕ Refusal} Err t.1)
 
       pub step_walk : n ≤ room / 2 → (u : Unit {0}) → Chosen set m flags (Ok u) flags' → (r : Result ℕ Refusal) (rows : List ResultRow)
           → Walks (record { elements = take (n - 0) els; names = ns; hints = hints; text = text; flags = flags' }) rows r

@@ -21,7 +21,6 @@ use Rattle.convert.specs.Outcome.{Outcome, followed}
 use Rattle.convert.specs.Visit.{Input, Wrote}
 use Rattle.convert.specs.Walked.{Left, Inside, spot_of, next_leaf, own_role, gives_field, gives_all, HasHint, Ready, ReadyBelow, Dispatches, Fields}
 use Rattle.convert.proofs.Trees.{count_plant, size_told, inside as fits_inside, below, beyond, rooted, sized, any_tree}
-use Rattle.tree.specs.Walk.{left}
 use Rattle.convert.proofs.Handing.{left_sole, hinted_unique}
 use Rattle.convert.proofs.Turns.{gives_turn, gives_none, field_few}
 
@@ -276,15 +275,3 @@ module _ {s : Input} {i : ℕ} {v : Levels} {hint : Option ℕ} {start : Cursor}
           n.ending,
           count_plant n.head n.under n.others_left,
         )
-
-    -- and the loop too
-    pub next_falls : (child : ℕ) → next ≡ Some child → (next' : Option ℕ) → SomeIff next' (HasNext element_span s.elements child i) (child + size_at element_span s.elements child)
-        → left s.elements next' < left s.elements next
-    next_falls child e next' r =
-        let n = next_child child e in
-        let z = fits_inside element_span s.elements child n.head n.under n.others_left n.lies in
-        subst (λ (o : Option ℕ). left s.elements next' < left s.elements o) (sym e) (by next' r (omega (arith, z)))
-      where
-        by : (o : Option ℕ) → SomeIff o (HasNext element_span s.elements child i) (child + size_at element_span s.elements child) → child < length s.elements → left s.elements o < left s.elements (Some child)
-        by None c l = omega arith
-        by (Some d) c l = omega (arith, c.1, c.0.1, c.0.2)

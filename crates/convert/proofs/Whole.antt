@@ -5,7 +5,6 @@ use Rattle.std.proofs.lemmas.List.{length-take}
 use Rattle.std.proofs.lemmas.Bool.{and_parts}
 use Rattle.tree.specs.Forest.{Forest, Lists, alone, count, listing}
 use Rattle.tree.specs.Forest.Forest.{bare, plant}
-use Rattle.schema.specs.declared.basic.Annotation.{Annotation}
 use Rattle.schema.specs.declared.basic.Annotation.TheVariants as a
 use Rattle.schema.specs.declared.element.Element.{Element}
 use Rattle.schema.specs.declared.element.Kind.{Kind}
@@ -35,10 +34,10 @@ use Rattle.convert.specs.declared.context.Seat.{Seat}
 use Rattle.convert.specs.Handed.{Hinted, WholeHints, typing_of}
 use Rattle.convert.specs.Outcome.{Outcome, outcome, told_below, told_label, told_tree}
 use Rattle.convert.specs.Root.{Front, Walks, root_told}
-use Rattle.convert.specs.Table.{Rooted, Stands, element_at, kids, label}
+use Rattle.convert.specs.Table.{Rooted, Stands, kids, label}
 use Rattle.convert.specs.Visit.{Input, Seats, Wrote, gives_as}
 use Rattle.convert.specs.Walked.{HasHint, Ready, Visits, next_leaf}
-use Rattle.convert.proofs.Trees.{count_plant, read_here, sized}
+use Rattle.convert.proofs.Trees.{count_plant, sized}
 use Rattle.promise.proofs.Rows.{length_lines}
 
 -- ── The first hint ──
@@ -123,10 +122,6 @@ module _ (s : Input) where
           rep_low = omega (arith, root_many, ap (λ (l : Levels). l.rep) e);
           def_low = omega (arith, root_many, ap (λ (l : Levels). l.def) e);
         }
-
-    pub root_kind : (n : Option Annotation) × ((element_at s.elements 0).kind ≡ group n)
-    root_kind =
-        (None, ap (λ (e : Element). e.kind) (read_here s.elements 0 tree.0.root tree.0.under bare root_stands) ∙ root_plain bytes tree.0.root tree.1.root)
 
     -- what it gives is what the walk gives
     module _ (h : Forest HintRow) (l : Lists hint_span h s.hints) where

@@ -399,6 +399,7 @@ fn dispatch(
 }
 
 // The first hint row is the root's, if there are any.
+#[tactic(auto, using(crate::proofs::Whole::first_hinted))]
 fn root_hint(source: Source) -> Option<usize>
     ensures { (h : Forest HintRow) → Lists hint_span h (read_by source.entry).hints → Hinted (read_by source.entry).hints (read_by source.entry).text result (sole (hints_of (read_by source.entry).text 0 h)) }
 {

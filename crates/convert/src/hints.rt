@@ -3,7 +3,7 @@ ghost use Rattle.std.specs.Prelude.{◌≡◌, ℕ, Bool, ◌&&◌, List};
 ghost use Rattle.tree.specs.Forest.{Forest};
 ghost use Rattle.walk.specs.Hints.{Hint, Nesting, inside, others, nesting, plain_list, any_list, any_struct, any_map, fits, has_children, over_two};
 ghost use Rattle.walk.specs.Forests.{planted};
-ghost use Rattle.walk.specs.Walk.{by_number, by_id, metadata_of, hinted_list, sorted_in, hinted_sorted, hinted_number};
+ghost use Rattle.walk.specs.Walk.{by_number, by_id, metadata_of, hinted_list, list_or, sorted_in, hinted_sorted, hinted_number};
 ghost use Rattle.convert.specs.Handed.{Hinted, HintsLeft, Sees, Unwrapped, WholeHints, named_as};
 
 use arrow::{ArrowType, HintRow, Metadata};
@@ -16,6 +16,17 @@ pub(crate) struct Hints<'a> {
     pub(crate) rows: &'a [HintRow],
     pub(crate) text: &'a [u8],
     ghost whole: { ∥ WholeHints rows.now ∥₁ },
+}
+
+// The type if it is a list, else List.
+fn list_or(data_type: ArrowType) -> ArrowType
+    ensures { result ≡ list_or (nesting data_type) data_type }
+{
+    if is_any_list(data_type) {
+        data_type
+    } else {
+        ArrowType::List
+    }
 }
 
 fn is_plain_list(data_type: ArrowType) -> bool
@@ -107,9 +118,10 @@ impl<'a> Hints<'a> {
     pub(crate) fn list_kind(self, hint: Option<usize>) -> ArrowType
         ensures { (bytes : List ℕ) (hs : Forest Hint) → Hinted self.entry.rows.now bytes hint hs → result ≡ hinted_list hs }
     {
+        // a match: with `map_or` no proof is found
         match self.row(hint) {
-            Some(row) if is_any_list(row.data_type) => row.data_type,
-            _ => ArrowType::List,
+            Some(row) => list_or(row.data_type),
+            None => ArrowType::List,
         }
     }
 

@@ -43,6 +43,7 @@ pub(crate) fn is_chosen(chosen: &[bool], leaf: usize) -> bool
 }
 
 // Puts a row round what was written from the row after `start` on, or gives that row back where nothing was.
+#[tactic(auto, using(crate::proofs::Written::wrote_unwrapped, crate::proofs::Written::wrote_wrapped))]
 pub(crate) fn close(rows: &mut [ResultRow], start: usize, cursor: Cursor, row: ResultRow) -> Cursor
     requires { (start + 1 ≤ cursor.row) × (start < length rows.old) }
     ensures low { start ≤ result.row }
@@ -144,6 +145,7 @@ pub(crate) fn list_row(seat: Seat, levels: Levels) -> ResultRow
 }
 
 // Writes the row of a leaf, and puts a list round it where it is repeated.
+#[tactic(auto, using(crate::proofs::Leaves::leaf_alone, crate::proofs::Leaves::leaf_listed))]
 pub(crate) fn write_leaf(
     hints: Hints,
     at: usize,
@@ -187,6 +189,7 @@ pub(crate) fn head_of(element: Element, start: usize) -> usize
 }
 
 // Puts a struct's row round its fields' rows, and a list round it where it is repeated.
+#[tactic(auto, using(crate::proofs::Leaves::struct_listed))]
 pub(crate) fn close_struct(
     hints: Hints,
     element: Element,

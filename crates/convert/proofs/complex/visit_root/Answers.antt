@@ -1,19 +1,16 @@
 use Rattle.std.proofs.lemmas.Result.{err_from_is_err_and}
 use Rattle.convert.specs.Visit.{read_by}
 use Rattle.convert.proofs.Uniques.{whole}
-use Rattle.convert.proofs.Whole.{root_ready, root_kind, root_hinted, root_done, root_refused}
+use Rattle.convert.proofs.Whole.{root_ready, root_hinted, root_done, root_refused}
 use Rattle.convert.proofs.complex.visit_root.Goals as goal
 
-pub visit_struct-requires : goal.visit_struct-requires
-visit_struct-requires c =
-    let s = read_by c.args.source in
-    let t = c.requires.finished in
+pub visit_struct-requires-clause-ready : goal.visit_struct-requires-clause-ready
+visit_struct-requires-clause-ready c = root_ready (read_by c.args.source) c.requires.finished.0 c.requires.finished.1 _ c.requires.room c.root_seat-seat.result.levels c.root_seat-seat.ensures.levels
+
+pub visit_struct-requires-clause-hinted : goal.visit_struct-requires-clause-hinted
+visit_struct-requires-clause-hinted c =
     let e = c.root_seat-seat.ensures in
-    record {
-      ready = root_ready s t.0 t.1 _ c.requires.room c.root_seat-seat.result.levels e.levels;
-      hinted = root_hinted s c.root_seat-seat.result e.levels e.above e.seats c.args.rows.now c.args.rows.now (whole c.args.source.hints.whole);
-      kind = root_kind s t.0 t.1;
-    }
+    root_hinted (read_by c.args.source) c.root_seat-seat.result e.levels e.above e.seats c.args.rows.now c.args.rows.now (whole c.args.source.hints.whole)
 
 pub returns-in_err-cursor : goal.returns-in_err-cursor
 returns-in_err-cursor c =

@@ -1,12 +1,6 @@
-use Rattle.std.proofs.Common.{sym, ◌∙◌, arith}
-use Rattle.convert.proofs.Leaves.{struct_alone, struct_listed}
+use Rattle.std.proofs.Common.{sym, ◌∙◌}
+use Rattle.convert.proofs.Leaves.{struct_alone}
 use Rattle.convert.proofs.rows.close_struct.Goals as goal
-
-pub returns-then-is_repeated : goal.returns-then-is_repeated
-returns-then-is_repeated c = λ bytes names hs p o next before l w.
-    struct_listed names c.args.seat hs c.args.element c.args.levels c.own_row-row.result (c.own_row-row.ensures bytes hs p) c.args.start o next before c.args.rows.now
-    c.close-inner.new.rows c.close.new.rows c.args.cursor c.close-inner.result c.close.result (sym c.is_repeated.ensures ∙ c.if-is_repeated.true)
-    c.list_row.result c.list_row.ensures l (omega arith) c.close-inner.ensures.wrote c.close.ensures.wrote w
 
 pub returns : goal.returns
 returns c = λ bytes names hs p o next before l w.

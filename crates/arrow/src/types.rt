@@ -2,9 +2,7 @@
 ghost use Rattle.std.specs.Prelude.{◌≡◌};
 ghost use Rattle.arrow.specs.Table.{unit_of};
 
-use schema::TimeUnit as ParquetTimeUnit;
-
-use schema::Place;
+use schema::{Place, TimeUnit as ParquetTimeUnit};
 
 #[derive(Clone, Copy, PartialEq, Eq, Debug)]
 pub enum TimeUnit {

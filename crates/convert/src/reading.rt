@@ -104,7 +104,6 @@ pub(crate) fn role_at(elements: &[Element], at: usize) -> Result<Role, Refusal>
     }
 }
 
-
 // Whether a name is `array`, or that of the group with `_tuple` after it.
 fn names_element(group: &[u8], name: &[u8]) -> bool
     ensures { result ≡ names_element group.now name.now }

@@ -31,9 +31,9 @@ impl Length for usize {
     }
 }
 
-// Where bytes lie in a caller's memory.
+// Where bytes lie in a caller's memory; a name's, where nothing else is said.
 #[derive(Clone, Copy, PartialEq, Eq, Debug)]
-pub struct Place<N> {
+pub struct Place<N = u8> {
     pub start: usize,
     pub length: N,
 }
@@ -51,7 +51,7 @@ impl<N: Length> Place<N> {
         ensures bytes { MatchOption result (end_of (counted N.length_of self.now) ≤ length memory.now → ⊥) (λ s. (end_of (counted N.length_of self.now) ≤ length memory.now) × (s.now ≡ part memory.now (counted N.length_of self.now))) }
     {
         self.lies_inside(memory.len())
-            .then(|| &memory[self.start..self.start + self.length.to_usize()])
+            .then(|| self.bytes_in(memory))
     }
 
     // The bytes at this place, as far as it lies inside the memory.

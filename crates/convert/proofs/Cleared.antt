@@ -3,6 +3,7 @@ use Rattle.std.proofs.Common.{◌≡◌, ℕ, ◌-◌, ◌*◌, ◌/◌, ◌<◌
 use borrow.Rule.Slice.PartMut.{put_mid}
 use Rattle.std.specs.List.{range_with_len}
 use Rattle.std.specs.Result.{is_err, result_unwrap_or}
+use Rattle.std.proofs.lemmas.Grind.{common_steps}
 use Rattle.std.proofs.lemmas.List.FromFn.{fill_by_all}
 use Rattle.std.proofs.lemmas.Bool.{le-ltb, lt-ltb, or_from}
 use Rattle.tree.specs.Forest.{Forest, alone, count, listing}
@@ -15,7 +16,6 @@ use Rattle.schema.specs.Reach.{Reached, whole}
 use Rattle.schema.specs.Rows.{IsFinished}
 use Rattle.schema.specs.Words.{Event}
 use Rattle.columns.specs.Levels.{leaves_of}
-use Rattle.columns.proofs.Tables.{cleared as cleared_rows}
 use Rattle.arrow.specs.declared.hint.HintRow.{HintRow}
 use Rattle.arrow.specs.declared.row.ResultRow.{ResultRow}
 use Rattle.arrow.specs.HintTrees.{IsHint}
@@ -119,10 +119,15 @@ pub flags_gone : (r : Result ℕ Refusal) (flags flags' : List Bool) → true �
 flags_gone (Ok n) flags flags' e f = absurd cc
 flags_gone (Err d) flags flags' e f = f
 
+-- a fill of all past a place
+filled : (rows fill : List ResultRow) (n : ℕ) → fill ≡ replicate (length (take (length rows - n) (drop n rows))) empty_row
+    → put_mid n (length rows - n) rows fill ≡ take n rows ++ replicate (length rows - n) empty_row
+filled rows fill n f = grind (arith, common_steps)
+
 -- the rows past the used ones, filled
 pub rows_cleared : (r : Result ℕ Refusal) (n : ℕ) (rows fill : List ResultRow) → n ≡ result_unwrap_or r 0
     → fill ≡ replicate (length (take (length rows - n) (drop n rows))) empty_row → put_mid n (length rows - n) rows fill ≡ rows_after r rows
-rows_cleared r n rows fill e f = cleared_rows rows fill empty_row n f ∙ ap (λ (k : ℕ). take k rows ++ replicate (length rows - k) empty_row) e
+rows_cleared r n rows fill e f = filled rows fill n f ∙ ap (λ (k : ℕ). take k rows ++ replicate (length rows - k) empty_row) e
 
 -- ── The steps ──
 

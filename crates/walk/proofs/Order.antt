@@ -1,5 +1,5 @@
 -- No row's repetition level is above its definition level; and the elements that are read are the schema's.
-use Rattle.std.proofs.Common.{◌≡◌, ℕ, suc, ◌+◌, ◌*◌, ◌≤◌, Bool, true, false, List, [], ◌∷◌, length, None, ap, arith, length-append, Ok, Err, Result}
+use Rattle.std.proofs.Common.{◌≡◌, ℕ, suc, ◌+◌, ◌*◌, ◌≤◌, Bool, true, false, List, [], ◌∷◌, length, None, ap, arith, length-append, Result}
 use Rattle.std.specs.List.{AllByRecursion}
 use Rattle.walk.proofs.Lists.{all_append, all_back, all_front, count_plant, sides_either}
 use Rattle.walk.proofs.Numbers.{count_numbered, count_reading, height_numbered, height_reading}

@@ -10,7 +10,6 @@ use Rattle.schema.specs.declared.refusal.Refusal.TheVariants as no
 use Rattle.arrow.specs.declared.hint.HintRow.{HintRow}
 use Rattle.arrow.specs.Kinds.{hint_span}
 use Rattle.arrow.specs.Convert.{converted_leaf}
-use Rattle.schema.specs.Elements.{part}
 use Rattle.walk.specs.Hints.{Hint, hints_of, has_children, sole, inside, others, fits, over_two, any_struct, any_map}
 use Rattle.walk.specs.Faults.{unless, struct_checks, map_checks}
 use Rattle.walk.specs.Walk.{by_number, by_id, metadata_of}

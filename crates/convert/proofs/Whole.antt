@@ -1,11 +1,10 @@
 -- The walk from the root.
-use Rattle.std.proofs.Common.{◌≡◌, ℕ, ◌+◌, ◌*◌, ◌≤◌, Bool, true, false, ◌&&◌, eqb, List, [], ◌∷◌, map, length, take, is_none, Some, Ok, Err, Result, sym, refl, ap, ◌∙◌, subst, ap₂, append-nil, arith, None, Option}
+use Rattle.std.proofs.Common.{◌≡◌, ℕ, ◌+◌, ◌*◌, ◌≤◌, Bool, true, false, ◌&&◌, eqb, List, [], ◌∷◌, map, length, take, is_none, Some, Ok, Err, Result, sym, refl, ap, ◌∙◌, subst, ap₂, append-nil, arith, None}
 use lib.ListN.{length-map}
 use Rattle.std.proofs.lemmas.List.{length-take}
 use Rattle.std.proofs.lemmas.Bool.{and_parts}
 use Rattle.tree.specs.Forest.{Forest, Lists, alone, count, listing}
 use Rattle.tree.specs.Forest.Forest.{bare, plant}
-use Rattle.schema.specs.declared.basic.Annotation.TheVariants as a
 use Rattle.schema.specs.declared.element.Element.{Element}
 use Rattle.schema.specs.declared.element.Kind.{Kind}
 use Rattle.schema.specs.declared.element.Kind.TheVariants.{Group as group, Leaf as leaf}

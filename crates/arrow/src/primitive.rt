@@ -14,6 +14,7 @@ use schema::{
 
 // The type of the leaf that the element has, with the hint at the row that is given, if any. A leaf with no Arrow type is
 // refused. Hint rows need not be checked: a row past the last, and a dictionary without just one child, count as absent.
+// (`hints` and `text` stand apart, as in `check_hints`: nothing is known of the two together.)
 pub fn convert_primitive(
     leaf: &Leaf,
     element: usize,

@@ -13,7 +13,8 @@ use crate::record::{PathRecord, enter};
 use schema::{Element, Refusal, Repetition, Schema};
 use tree::FlatTree;
 
-// The levels of the path walked so far.
+// The levels of the path walked so far. (Counted apart from the walk's `Levels`: that a listing and a conversion agree is a
+// law, and would be none of a step that they share.)
 #[derive(Clone, Copy)]
 struct Levels {
     repetition: u16,

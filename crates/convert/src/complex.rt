@@ -202,6 +202,9 @@ fn map_row(
     }
 }
 
+// What a visit asks, `Ready` and `HasHint`, is of its own place, cursor and hint, which differ from visit to visit; so they stand
+// on each and in no type.
+
 // Visits the element at `at`, which has a row of its own.
 #[cycle(dispatch_visit_fields_visit_list_visit_map_visit_own_visit_struct)]
 fn visit_own(

@@ -14,6 +14,8 @@ pub(crate) struct Source<'a> {
 }
 
 // Where the next row goes, and the number of the next leaf.
+// (The rows are lent beside it: of a struct that holds their `&mut` slice, each visit would have to say that it leaves them the
+// caller's.)
 #[derive(Clone, Copy)]
 pub(crate) struct Cursor {
     pub(crate) row: usize,

@@ -33,6 +33,7 @@ pub struct HintSchema<'a> {
 }
 
 // Walks the counted elements, and answers how many rows were written.
+// (`finished` is asked here and of the visit of the root; a type for finished rows would be made and taken apart between the two.)
 fn walk_elements<'a>(
     elements: &'a [Element],
     names: &'a [u8],

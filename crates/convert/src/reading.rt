@@ -25,6 +25,8 @@ pub(crate) fn is_repeated(element: Element) -> bool
     element.repetition == Some(Repetition::Repeated)
 }
 
+// (Elements and place are two parameters, and `Rooted` is asked of each place anew: a struct of them would be built for one
+// call.)
 // How many children the element at `at` has.
 pub(crate) fn count_children(elements: &[Element], at: usize) -> usize
     requires { Rooted elements.now at }

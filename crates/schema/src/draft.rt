@@ -18,6 +18,7 @@ pub const MAX_DEPTH: u8 = 64;
 pub const MAX_NAME: usize = 255;
 
 // A schema that is being spelled: how much of the lent memory it uses, and how many groups are open, the root counted.
+// (Counts, and no `Vec`: the memory is the caller's.)
 #[derive(Drop)]
 pub struct Draft {
     count: usize,
@@ -48,6 +49,8 @@ impl Schema {
     }
 }
 
+// Elements and names are lent side by side: a struct of the two `&mut` would be built anew for each call, and each call would
+// have to say that it leaves them the caller's.
 impl Draft {
     // How many elements have been spelled.
     pub fn elements(&self) -> usize

@@ -1,8 +1,7 @@
 -- The loop over the fields of a struct.
-use Rattle.std.proofs.Common.{◌≡◌, ℕ, suc, ◌+◌, ◌<◌, ◌≤◌, max, true, false, cond, List, [], ◌∷◌, ◌++◌, map, length, take, Some, None, Ok, Err, Option, sym, refl, ap, ◌∙◌, subst, ap₂, append_assoc, arith, length-append, length-drop}
+use Rattle.std.proofs.Common.{◌≡◌, ℕ, suc, ◌+◌, ◌<◌, ◌≤◌, max, true, false, cond, List, [], ◌∷◌, ◌++◌, map, length, take, Ok, Err, Option, sym, refl, ap, ◌∙◌, subst, ap₂, append_assoc, arith, length-append}
 use Rattle.std.proofs.lemmas.List.{append-nil}
-use Rattle.std.specs.Option.{SomeIff}
-use Rattle.tree.specs.Forest.{Forest, count, listing, size_at, HasChild, HasNext}
+use Rattle.tree.specs.Forest.{Forest, Lists, count, size_at, tops, children}
 use Rattle.tree.specs.Forest.Forest.{bare, plant}
 use Rattle.schema.specs.declared.element.Element.{Element}
 use Rattle.schema.specs.declared.refusal.Refusal.{Refusal}
@@ -14,60 +13,29 @@ use Rattle.walk.specs.Hints.{Hint, sole, others, inside}
 use Rattle.walk.specs.declared.levels.Levels.{Levels}
 use Rattle.convert.specs.declared.context.Cursor.{Cursor}
 use Rattle.convert.specs.declared.context.Task.{Task}
-use Rattle.convert.specs.Table.{Lies, Stands, element_at, spelled_by}
+use Rattle.convert.specs.Table.{Stands, element_at, spelled_by}
 use Rattle.convert.specs.Handed.{Hinted, HintsLeft}
 use Rattle.walk.specs.Results.{Line, line_of}
 use Rattle.convert.specs.Outcome.{Outcome, followed}
 use Rattle.convert.specs.Visit.{Input, Wrote}
-use Rattle.convert.specs.Walked.{Left, Inside, spot_of, next_leaf, own_role, gives_field, gives_all, HasHint, Ready, ReadyBelow, Dispatches, Fields}
-use Rattle.convert.proofs.Trees.{count_plant, size_told, inside as fits_inside, below, beyond, rooted, sized, any_tree}
+use Rattle.convert.specs.Walked.{Inside, next_leaf, own_role, gives_field, gives_all, HasHint, Ready, ReadyBelow, Dispatches, Fields}
+use Rattle.convert.proofs.Trees.{count_plant, size_told, below, beyond, below_whole, rooted, sized, any_tree}
 use Rattle.convert.proofs.Handing.{left_sole, hinted_unique}
 use Rattle.convert.proofs.Turns.{gives_turn, gives_none, field_few}
 
 -- ── What is left ──
 
-module _ {A : Type 0} (span : A → ℕ) (rows : List A) where
-  pub first_left : (p : ℕ) (h : A) (b n : Forest A) → Lies span rows p (plant h b n) → (r : Option ℕ) → SomeIff r (HasChild span rows p) (p + 1) → Left span rows p r b
-  first_left p h bare n q None c = refl
-  first_left p h (plant x y z) n q None c =
-      absurd (c (omega (arith, size_told span rows p h (plant x y z) n q, count_plant x y z), omega (arith, fits_inside span rows p h (plant x y z) n q, count_plant x y z)))
-  first_left p h bare n q (Some j) c = absurd (omega (arith, c.0.0, size_told span rows p h bare n q))
-  first_left p h (plant x y z) n q (Some j) c =
-      subst (λ (m : ℕ). Left span rows p (Some m) (plant x y z)) (sym c.1)
-      (x, y, z, below span rows p h (plant x y z) n q, refl, omega arith, omega (arith, size_told span rows p h (plant x y z) n q))
+-- the first of the places is the first tree's, and the others those of the trees after it
+taken : {A : Type 0} (j : ℕ) (f : Forest A) (c : ℕ) (cs : List ℕ) → tops j f ≡ c ∷ cs
+    → (h : A) × (b : Forest A) × (n : Forest A) × (f ≡ plant h b n) × (j ≡ c) × (cs ≡ tops (j + (1 + count b)) n)
+taken j bare c cs e = absurd cc
+taken j (plant h b n) c cs e =
+    let one : suc (count b) ≡ 1 + count b = omega arith in
+    (h, b, n, refl, cc, (let z : cs ≡ tops (j + suc (count b)) n = cc in z) ∙ ap (λ (m : ℕ). tops (j + m) n) one)
 
-  all_inside : (j : ℕ) (f : Forest A) → Lies span rows j f → 0 < count f → j + count f ≤ length rows
-  all_inside j f p h = omega (arith, ap length p.here, length-drop j rows, length-append (listing f) p.after)
-
-  pub next_left : (p j : ℕ) (h : A) (b n : Forest A) → Lies span rows j (plant h b n) → p < j → j + count (plant h b n) ≡ p + size_at span rows p
-      → (r : Option ℕ) → SomeIff r (HasNext span rows j p) (j + size_at span rows j) → Left span rows p r n
-  next_left p j h b bare q l w None c = refl
-  next_left p j h b (plant x y z) q l w None c =
-      let s = size_told span rows j h b (plant x y z) q in
-      let m = count_plant h b (plant x y z) in
-      let k = count_plant x y z in
-      let a = all_inside j (plant h b (plant x y z)) q (omega arith) in
-      absurd (c (l, omega (arith, s), omega (arith, s, m, k, a), omega (arith, s, m, k)))
-  next_left p j h b bare q l w (Some d) c = absurd (omega (arith, c.0.3, size_told span rows j h b bare q, count_plant h b bare))
-  next_left p j h b (plant x y z) q l w (Some d) c =
-      let s = size_told span rows j h b (plant x y z) q in
-      let m = count_plant h b (plant x y z) in
-      let e : j + (1 + count b) ≡ d = omega (arith, c.1, s) in
-      (x, y, z, subst (λ (i : ℕ). Lies span rows i (plant x y z)) e (beyond span rows j h b (plant x y z) q), refl, omega (arith, e), omega (arith, e, m))
-
--- the spot plays no part where nothing is left
-spot_any : (s : Input) (p m k : ℕ) (v : Levels) (hs : Forest Hint) (r : Option ℕ) (c : Forest Element) → Left element_span s.elements p r c → ((j : ℕ) → r ≡ Some j → j ≡ m)
-    → gives_all s m k v true hs c ≡ gives_all s (spot_of r) k v true hs c
-spot_any s p m k v hs None c l f =
-    ap (gives_all s m k v true hs) l ∙ gives_none s m k v true hs ∙ sym (ap (gives_all s 0 k v true hs) l ∙ gives_none s 0 k v true hs)
-spot_any s p m k v hs (Some j) c l f = ap (λ (x : ℕ). gives_all s x k v true hs c) (sym (f j refl))
-
-checked_spot : (P : Type 0) (m : ℕ) (r : Option ℕ) → SomeIff r P m → (j : ℕ) → r ≡ Some j → j ≡ m
-checked_spot P m None c j e = absurd cc
-checked_spot P m (Some d) c j e = some_same e ∙ c.1
-  where
-    some_same : Some d ≡ Some j → j ≡ d
-    some_same e = cc
+no_more : {A : Type 0} (j : ℕ) (f : Forest A) → tops j f ≡ [] → f ≡ bare
+no_more j bare e = refl
+no_more j (plant h b n) e = absurd cc
 
 followed_nil : (o : Outcome) → o ≡ followed (Ok []) o
 followed_nil (Err e) = refl
@@ -101,12 +69,11 @@ next_few names k e b =
 
 module _ {s : Input} {i : ℕ} {v : Levels} {hint : Option ℕ} {start : Cursor} {before : List ResultRow} where
   -- as it begins
-  pub begins : ReadyBelow s.elements i v start (length before) → HasHint s hint → (next : Option ℕ) → SomeIff next (HasChild element_span s.elements i) (i + 1) → (given : Option ℕ)
+  pub begins : ReadyBelow s.elements i v start (length before) → HasHint s hint → (places : List ℕ) → ((f : Forest Element) → Lists element_span f s.elements → places ≡ children f i) → (given : Option ℕ)
       → ((bytes : List ℕ) (hs : Forest Hint) → Hinted s.hints bytes hint hs → HintsLeft s.hints bytes hint given (inside hs))
-      → Inside s i v hint start before next given start before
-  begins h (hs, p) next n given g =
+      → Inside s i v hint start before places given start before
+  begins h (hs, p) places comes given g =
       let t = h.root in
-      let l = first_left element_span s.elements i t.top t.below t.after t.lies next n in
       record {
         whole = t.whole;
         lists = t.lists;
@@ -114,8 +81,12 @@ module _ {s : Input} {i : ℕ} {v : Levels} {hint : Option ℕ} {start : Cursor}
         all = t.below;
         after = t.after;
         lies = t.lies;
+        at = i + 1;
         rest = t.below;
-        left = l;
+        left = below element_span s.elements i t.top t.below t.after t.lies;
+        past = omega arith;
+        filled = omega (arith, size_told element_span s.elements i t.top t.below t.after t.lies);
+        comes = comes t.whole t.lists ∙ ap (tops (i + 1)) (below_whole element_span s.elements i t.whole t.lists t.top t.below t.after t.lies);
         long = refl;
         fits = h.fits;
         few_left = h.few;
@@ -129,31 +100,44 @@ module _ {s : Input} {i : ℕ} {v : Levels} {hint : Option ℕ} {start : Cursor}
         hinted = p;
         more = inside hs;
         more_left = g s.text hs p;
-        is = spot_any s i (i + 1) start.leaf v (inside hs) next t.below l (checked_spot (HasChild element_span s.elements i) (i + 1) next n)
-            ∙ followed_nil (gives_all s (spot_of next) start.leaf v true (inside hs) t.below);
+        is = followed_nil (gives_all s (i + 1) start.leaf v true (inside hs) t.below);
       }
 
-  module _ {next given : Option ℕ} {cursor : Cursor} {out : List ResultRow} (h : Inside s i v hint start before next given cursor out) where
-    -- the next child
-    pub record Next (child : ℕ) : Type 0 where
+  module _ {places : List ℕ} {given : Option ℕ} {cursor : Cursor} {out : List ResultRow} (h : Inside s i v hint start before places given cursor out) where
+    -- the next child, and the places that come after it
+    pub record Next (child : ℕ) (more : List ℕ) : Type 0 where
       pub head : Element
       pub under : Forest Element
       pub others_left : Forest Element
       pub lies : Stands s.elements child (plant head under others_left)
+      pub here : h.at ≡ child
       pub rest_is : h.rest ≡ plant head under others_left
       pub past : i < child
       pub ending : child + count (plant head under others_left) ≡ i + size_at element_span s.elements i
+      pub on : more ≡ tops (child + (1 + count under)) others_left
       pub counted : count h.rest ≡ 1 + (count under + count others_left)
       pub high : height h.rest ≡ max (suc (height under)) (height others_left)
 
-    pub next_child : (child : ℕ) → next ≡ Some child → Next child
-    next_child child e =
-        let (x, b, n, q, r, l, w) = subst (λ (o : Option ℕ). Left element_span s.elements i o h.rest) e h.left in
-        record { head = x; under = b; others_left = n; lies = q; rest_is = r; past = l; ending = w; counted = ap count r ∙ count_plant x b n; high = ap height r }
+    pub next_child : (child : ℕ) (more : List ℕ) → places ≡ child ∷ more → Next child more
+    next_child child more e =
+        let (x, b, n, r, a, on) = taken h.at h.rest child more (sym h.comes ∙ e) in
+        record {
+          head = x;
+          under = b;
+          others_left = n;
+          lies = subst (λ (m : ℕ). Stands s.elements m (plant x b n)) a (subst (Stands s.elements h.at) r h.left);
+          here = a;
+          rest_is = r;
+          past = omega (arith, h.past, a);
+          ending = omega (arith, h.filled, a, ap count r);
+          on = on ∙ ap (λ (m : ℕ). tops (m + (1 + count b)) n) a;
+          counted = ap count r ∙ count_plant x b n;
+          high = ap height r;
+        }
 
-    pub next_ready : (child : ℕ) → next ≡ Some child → Ready s.elements child v cursor (length out)
-    next_ready child e =
-        let n = next_child child e in
+    pub next_ready : (child : ℕ) (more : List ℕ) → places ≡ child ∷ more → Ready s.elements child v cursor (length out)
+    next_ready child more e =
+        let n = next_child child more e in
         record {
           root = rooted s.elements child h.whole h.lists n.head n.under n.others_left n.lies;
           fits = omega (arith, h.fits, n.counted);
@@ -167,13 +151,13 @@ module _ {s : Input} {i : ℕ} {v : Levels} {hint : Option ℕ} {start : Cursor}
     task = record { levels = v; hint = given; named = true; key = false }
 
     -- what is given, with the first of the fields that are left apart
-    apart : (child : ℕ) (e : next ≡ Some child) (n : Next child)
+    apart : (child : ℕ) (more : List ℕ) (n : Next child more)
         → gives_all s (i + 1) start.leaf v true (inside h.hs) h.all
         ≡ followed (Ok (map (line_of s.names) h.rows)) (followed (gives_field s child cursor.leaf v true false (sole h.more) n.head n.under)
         (gives_all s (child + (1 + count n.under)) (next_leaf s.names cursor.leaf n.head n.under) v true (others h.more) n.others_left))
-    apart child e n =
+    apart child more n =
         h.is
-        ∙ ap₂ (λ (o : Option ℕ) (f : Forest Element). followed (Ok (map (line_of s.names) h.rows)) (gives_all s (spot_of o) cursor.leaf v true h.more f)) e n.rest_is
+        ∙ ap₂ (λ (m : ℕ) (f : Forest Element). followed (Ok (map (line_of s.names) h.rows)) (gives_all s m cursor.leaf v true h.more f)) n.here n.rest_is
         ∙ ap (followed (Ok (map (line_of s.names) h.rows))) (gives_turn s child cursor.leaf v true h.more n.head n.under n.others_left)
 
     abbrev pub next_hinted : HasHint s given
@@ -188,25 +172,25 @@ module _ {s : Input} {i : ℕ} {v : Levels} {hint : Option ℕ} {start : Cursor}
         (any_tree element_span s.elements i (λ _ f. P (gives_all s (i + 1) start.leaf v true (inside h.hs) f) (start.leaf + leaf_count (spelled_by s.names f))) h.top h.all h.after h.lies w e b m q)
 
     -- a field that is refused
-    pub broken_off : (child : ℕ) → next ≡ Some child → (x : Refusal) (out' : List ResultRow) → Dispatches s child task cursor out out' (Err x) → Fields s i v hint start before out' (Err x)
-    broken_off child e x out' f =
-        let n = next_child child e in
+    pub broken_off : (child : ℕ) (more : List ℕ) → places ≡ child ∷ more → (x : Refusal) (out' : List ResultRow) → Dispatches s child task cursor out out' (Err x) → Fields s i v hint start before out' (Err x)
+    broken_off child more e x out' f =
+        let n = next_child child more e in
         let y : gives_field s child cursor.leaf v true false (sole h.more) n.head n.under ≡ Err x =
         f n.head n.under n.others_left n.lies (sole h.more) next_hinted.1 in
         anyway (λ o _. o ≡ Err x)
-        (apart child e n
+        (apart child more n
         ∙ ap (λ (o : Outcome). followed (Ok (map (line_of s.names) h.rows)) (followed o (gives_all s (child + (1 + count n.under)) (next_leaf s.names cursor.leaf n.head n.under) v true (others h.more) n.others_left))) y)
 
     -- all fields were visited
-    pub finished : next ≡ None → Fields s i v hint start before out (Ok cursor)
+    pub finished : places ≡ [] → Fields s i v hint start before out (Ok cursor)
     finished e =
-        let z : h.rest ≡ bare = subst (λ (o : Option ℕ). Left element_span s.elements i o h.rest) e h.left in
+        let z = no_more h.at h.rest (sym h.comes ∙ e) in
         anyway (λ o m. Wrote s.names o start.row m before out cursor)
         (record {
           rows = h.rows;
           is = h.is
-              ∙ ap (λ (f : Forest Element). followed (Ok (map (line_of s.names) h.rows)) (gives_all s (spot_of next) cursor.leaf v true h.more f)) z
-              ∙ ap (followed (Ok (map (line_of s.names) h.rows))) (gives_none s (spot_of next) cursor.leaf v true h.more)
+              ∙ ap (λ (f : Forest Element). followed (Ok (map (line_of s.names) h.rows)) (gives_all s h.at cursor.leaf v true h.more f)) z
+              ∙ ap (followed (Ok (map (line_of s.names) h.rows))) (gives_none s h.at cursor.leaf v true h.more)
               ∙ ap Ok (append-nil (map (line_of s.names) h.rows));
           ends = h.ends;
           counts = omega (arith, h.counts, ap (λ (f : Forest Element). leaf_count (spelled_by s.names f)) z);
@@ -214,12 +198,12 @@ module _ {s : Input} {i : ℕ} {v : Levels} {hint : Option ℕ} {start : Cursor}
         })
 
     -- after a field whose visit gave rows
-    pub onward : (child : ℕ) → next ≡ Some child → (cursor' : Cursor) (out' : List ResultRow) → length out' ≡ length out → Dispatches s child task cursor out out' (Ok cursor')
-        → (next' : Option ℕ) → SomeIff next' (HasNext element_span s.elements child i) (child + size_at element_span s.elements child) → (given' : Option ℕ)
+    pub onward : (child : ℕ) (more : List ℕ) → places ≡ child ∷ more → (cursor' : Cursor) (out' : List ResultRow) → length out' ≡ length out → Dispatches s child task cursor out out' (Ok cursor')
+        → (given' : Option ℕ)
         → ((bytes : List ℕ) (hs : Forest Hint) → HintsLeft s.hints bytes hint given hs → HintsLeft s.hints bytes hint given' (others hs))
-        → Inside s i v hint start before next' given' cursor' out'
-    onward child e cursor' out' l f next' r given' g =
-        let n = next_child child e in
+        → Inside s i v hint start before more given' cursor' out'
+    onward child more e cursor' out' l f given' g =
+        let n = next_child child more e in
         let x = n.head in
         let b = n.under in
         let c = n.others_left in
@@ -228,8 +212,6 @@ module _ {s : Input} {i : ℕ} {v : Levels} {hint : Option ℕ} {start : Cursor}
         f x b c n.lies (sole h.more) next_hinted.1 in
         let d = field_few s (own_role s child k x b) child k v true false (sole h.more) x b (map (line_of s.names) w.rows) w.is in
         let d' = length-map (line_of s.names) w.rows in
-        let z = size_told element_span s.elements child x b c n.lies in
-        let left' = next_left element_span s.elements i child x b c n.lies n.past n.ending next' r in
         record {
           whole = h.whole;
           lists = h.lists;
@@ -237,8 +219,12 @@ module _ {s : Input} {i : ℕ} {v : Levels} {hint : Option ℕ} {start : Cursor}
           all = h.all;
           after = h.after;
           lies = h.lies;
+          at = child + (1 + count b);
           rest = c;
-          left = left';
+          left = beyond element_span s.elements child x b c n.lies;
+          past = omega (arith, n.past);
+          filled = omega (arith, n.ending, count_plant x b c);
+          comes = n.on;
           long = l ∙ h.long;
           fits = omega (arith, h.fits, n.counted, w.ends, d, d', l);
           few_left = omega (arith, h.few_left, n.counted, w.counts, next_few s.names k x b);
@@ -252,20 +238,16 @@ module _ {s : Input} {i : ℕ} {v : Levels} {hint : Option ℕ} {start : Cursor}
           hinted = h.hinted;
           more = others h.more;
           more_left = g s.text h.more h.more_left;
-          is = apart child e n
+          is = apart child more n
               ∙ ap (λ (o : Outcome). followed (Ok (map (line_of s.names) h.rows)) (followed o (gives_all s (child + (1 + count b)) (next_leaf s.names k x b) v true (others h.more) c))) w.is
               ∙ followed_more (map (line_of s.names) h.rows) (map (line_of s.names) w.rows) (gives_all s (child + (1 + count b)) (next_leaf s.names k x b) v true (others h.more) c)
-              ∙ ap₂ (λ (ys : List Line) (m : ℕ). followed (Ok ys) (gives_all s (child + m) (next_leaf s.names k x b) v true (others h.more) c)) (sym (map-append (line_of s.names) h.rows w.rows)) (sym z)
-              ∙ ap (λ (m : ℕ). followed (Ok (map (line_of s.names) (h.rows ++ w.rows))) (gives_all s (child + size_at element_span s.elements child) m v true (others h.more) c)) (sym w.counts)
-              ∙ ap (followed (Ok (map (line_of s.names) (h.rows ++ w.rows))))
-              (spot_any s i (child + size_at element_span s.elements child) cursor'.leaf v (others h.more) next' c left'
-              (checked_spot (HasNext element_span s.elements child i) (child + size_at element_span s.elements child) next' r));
+              ∙ ap₂ (λ (ys : List Line) (m : ℕ). followed (Ok ys) (gives_all s (child + (1 + count b)) m v true (others h.more) c)) (sym (map-append (line_of s.names) h.rows w.rows)) (sym w.counts);
         }
 
     -- so that a visit of it ends
-    pub next_measure : (child : ℕ) → next ≡ Some child → (element_at s.elements child).size < (element_at s.elements i).size
-    next_measure child e =
-        let n = next_child child e in
+    pub next_measure : (child : ℕ) (more : List ℕ) → places ≡ child ∷ more → (element_at s.elements child).size < (element_at s.elements i).size
+    next_measure child more e =
+        let n = next_child child more e in
         omega (
           arith,
           sized s.elements child n.head n.under n.others_left n.lies,

@@ -1,7 +1,7 @@
 -- What the walk gives below an element, and what the visits that call each other answer.
-use Rattle.std.specs.Prelude.{◌≡◌, ℕ, ◌+◌, ◌*◌, ◌^◌, ◌<◌, ◌≤◌, Bool, true, false, cond, List, ◌++◌, map, length, take, Some, None, Ok, Option, Result}
+use Rattle.std.specs.Prelude.{◌≡◌, ℕ, ◌+◌, ◌*◌, ◌^◌, ◌<◌, ◌≤◌, Bool, true, false, cond, List, ◌++◌, map, length, take, Ok, Option, Result}
 use Rattle.schema.specs.Elements.{element_span}
-use Rattle.tree.specs.Forest.{Forest, count, Lists, size_at}
+use Rattle.tree.specs.Forest.{Forest, count, Lists, size_at, tops}
 use Rattle.tree.specs.Forest.Forest.{bare, plant}
 use Rattle.schema.specs.declared.element.Element.{Element}
 use Rattle.schema.specs.declared.refusal.Refusal.{Refusal}
@@ -23,7 +23,7 @@ use Rattle.walk.specs.declared.levels.Levels.{Levels}
 use Rattle.convert.specs.declared.context.Cursor.{Cursor}
 use Rattle.convert.specs.declared.context.Seat.{Seat}
 use Rattle.convert.specs.declared.context.Task.{Task}
-use Rattle.convert.specs.Table.{Lies, Stands, Rooted, label, spelled_by, kids}
+use Rattle.convert.specs.Table.{Stands, Rooted, label, spelled_by, kids}
 use Rattle.convert.specs.Handed.{Hinted, HintsLeft, typing_of}
 use Rattle.walk.specs.Results.{line_of}
 use Rattle.convert.specs.Outcome.{Outcome, Told, outcome, followed, told_label, told_tree}
@@ -111,27 +111,21 @@ Fields s i v hint start before after r =
 
 -- ── The loop over fields ──
 
--- the trees that are left below the row at `p`, from the next on
-abbrev pub Left : {A : Type 0} → (A → ℕ) → List A → ℕ → Option ℕ → Forest A → Type 0
-Left span rows p None rest = rest ≡ bare
-Left {A} span rows p (Some j) rest =
-    (h : A) × (below : Forest A) × (next : Forest A) × Lies span rows j (plant h below next)
-    × (rest ≡ plant h below next) × (p < j) × (j + count (plant h below next) ≡ p + size_at span rows p)
-
-abbrev pub spot_of : Option ℕ → ℕ
-spot_of None = 0
-spot_of (Some j) = j
-
--- how far the fields of the struct at `i` have been visited
-pub record Inside (s : Input) (i : ℕ) (v : Levels) (hint : Option ℕ) (start : Cursor) (before : List ResultRow) (next given : Option ℕ) (cursor : Cursor) (out : List ResultRow) : Type 0 where
+-- how far the fields of the struct at `i` have been visited: `places` are those of the fields that are left, whose trees stand
+-- from `at` on
+pub record Inside (s : Input) (i : ℕ) (v : Levels) (hint : Option ℕ) (start : Cursor) (before : List ResultRow) (places : List ℕ) (given : Option ℕ) (cursor : Cursor) (out : List ResultRow) : Type 0 where
   pub whole : Forest Element
   pub lists : Lists element_span whole s.elements
   pub top : Element
   pub all : Forest Element
   pub after : Forest Element
   pub lies : Stands s.elements i (plant top all after)
+  pub at : ℕ
   pub rest : Forest Element
-  pub left : Left element_span s.elements i next rest
+  pub left : Stands s.elements at rest
+  pub past : i < at
+  pub filled : at + count rest ≡ i + size_at element_span s.elements i
+  pub comes : places ≡ tops at rest
   pub long : length out ≡ length before
   pub fits : cursor.row + 2 * count rest ≤ length out
   pub few_left : cursor.leaf + count rest < 2 ^ 64
@@ -146,7 +140,7 @@ pub record Inside (s : Input) (i : ℕ) (v : Levels) (hint : Option ℕ) (start 
   pub hinted : Hinted s.hints s.text hint hs
   pub more : Forest Hint
   pub more_left : HintsLeft s.hints s.text hint given more
-  pub is : gives_all s (i + 1) start.leaf v true (inside hs) all ≡ followed (Ok (map (line_of s.names) rows)) (gives_all s (spot_of next) cursor.leaf v true more rest)
+  pub is : gives_all s (i + 1) start.leaf v true (inside hs) all ≡ followed (Ok (map (line_of s.names) rows)) (gives_all s at cursor.leaf v true more rest)
 
 -- ── What a list's and a map's repeated child is told ──
 

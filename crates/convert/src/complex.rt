@@ -266,11 +266,9 @@ fn visit_fields(
     requires hinted { HasHint (read_by source) hint }
     ensures { Fields (read_by source.entry) at levels hint from rows.old rows.new result }
 {
-    let tree = FlatTree::new(source.elements);
     let mut cursor = from;
     let mut given = source.hints.first(hint);
-    let mut next = tree.first_child(at);
-    while let Some(child) = next {
+    for child in FlatTree::new(source.elements).children(at) {
         let task = Task {
             levels,
             hint: given,
@@ -279,7 +277,6 @@ fn visit_fields(
         };
         cursor = dispatch(source, child, task, cursor, rows)?;
         given = source.hints.next(given, hint);
-        next = tree.next_sibling(child, at);
     }
     Ok(cursor)
 }

@@ -44,28 +44,28 @@ dispatch-visit_list-requires t c = (omega (arith, c.decreases), (c.requires.read
 pub dispatch-visit_map-requires : goal.dispatch-visit_map-requires
 dispatch-visit_map-requires t c = (omega (arith, c.decreases), (c.requires.ready, (c.requires.hinted, reads_as mapped c.in-Mapped.is c.in_ok-role_at.ensures)))
 
-pub visit_fields-loop-next-init : goal.visit_fields-loop-next-init
-visit_fields-loop-next-init t c =
-    begins c.requires.ready c.requires.hinted c.first_child-next.result (simp c.new-tree.ensures.rows at c.first_child-next.ensures.by_size) c.first-given.result c.first-given.ensures
+pub visit_fields-loop-child-init : goal.visit_fields-loop-child-init
+visit_fields-loop-child-init t c =
+    let it = c.into_iter-child-iterator in
+    begins c.requires.ready c.requires.hinted it.result (λ f l. it.ensures.into_iter_gives ∙ c.children-child-items.ensures.in_tree f (rw c.new.ensures.rows l)) c.first-given.result c.first-given.ensures
 
 pub visit_fields-dispatch-requires : goal.visit_fields-dispatch-requires
 visit_fields-dispatch-requires t c =
-    let m = next_measure c.loop-next.invariant c.in-Some.child c.in-Some.is in
-    (omega (arith, c.decreases, m), (next_ready c.loop-next.invariant c.in-Some.child c.in-Some.is, next_hinted c.loop-next.invariant))
+    let m = next_measure c.loop-child.invariant c.in-Some.child _ c.in-Some.ensures.steps in
+    (omega (arith, c.decreases, m), (next_ready c.loop-child.invariant c.in-Some.child _ c.in-Some.ensures.steps, next_hinted c.loop-child.invariant))
 
 pub visit_fields-returns-in_err-cursor : goal.visit_fields-returns-in_err-cursor
 visit_fields-returns-in_err-cursor t c =
     let p = err_from_is_err_and c.from_residual.result c.from_residual.ensures.1 in
-    rw (p.1, p.2) (broken_off c.loop-next.invariant c.in-Some.child c.in-Some.is _ c.dispatch.new.rows c.in_err-cursor.ensures)
+    rw (p.1, p.2) (broken_off c.loop-child.invariant c.in-Some.child _ c.in-Some.ensures.steps _ c.dispatch.new.rows c.in_err-cursor.ensures)
 
-pub visit_fields-loop-next-preserved : goal.visit_fields-loop-next-preserved
-visit_fields-loop-next-preserved t c =
-    onward c.loop-next.invariant c.in-Some.child c.in-Some.is c.in_ok-cursor.cursor c.dispatch.new.rows (omega arith) c.in_ok-cursor.ensures
-    c.next_sibling-next.result (simp c.new-tree.ensures.rows at c.next_sibling-next.ensures.by_size) c.next-given.result c.next-given.ensures
+pub visit_fields-loop-child-preserved : goal.visit_fields-loop-child-preserved
+visit_fields-loop-child-preserved t c =
+    onward c.loop-child.invariant c.in-Some.child _ c.in-Some.ensures.steps c.in_ok-cursor.cursor c.dispatch.new.rows (omega arith) c.in_ok-cursor.ensures c.next-given.result c.next-given.ensures
 
 pub visit_fields-returns : goal.visit_fields-returns
 visit_fields-returns t c =
-    finished c.loop-next.invariant c.in_default.is
+    finished c.loop-child.invariant c.in-None.ensures.steps.0
 
 pub visit_list-returns-then-not-fits : goal.visit_list-returns-then-not-fits
 visit_list-returns-then-not-fits t c =

@@ -1,5 +1,4 @@
 use Rattle.std.proofs.Common.{◌+◌, ◌*◌}
-use Rattle.tree.specs.Walk.{left}
 use Rattle.convert.specs.Table.{element_at}
 use Rattle.convert.specs.Visit.{read_by}
 use Rattle.convert.specs.Walked.{Inside}
@@ -23,9 +22,6 @@ decreases-visit_own l = 5 * (element_at l.source.elements.now l.at).size + 2
 abbrev pub decreases-visit_struct : goal.decreases-visit_struct
 decreases-visit_struct l = 5 * (element_at l.source.elements.now l.at).size + 1
 
-abbrev pub invariant-visit_fields-loop-next : goal.invariant-visit_fields-loop-next
-invariant-visit_fields-loop-next l =
-    Inside (read_by l.initial.source) l.initial.at l.initial.levels l.initial.hint l.initial.cursor l.initial.rows l.next l.given l.cursor l.rows
-
-abbrev pub decreases-visit_fields-loop-next : goal.decreases-visit_fields-loop-next
-decreases-visit_fields-loop-next l = left l.initial.source.elements.now l.next
+abbrev pub invariant-visit_fields-loop-child : goal.invariant-visit_fields-loop-child
+invariant-visit_fields-loop-child l =
+    Inside (read_by l.initial.source) l.initial.at l.initial.levels l.initial.hint l.initial.cursor l.initial.rows l.child-iterator l.given l.cursor l.rows

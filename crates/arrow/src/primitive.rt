@@ -168,6 +168,7 @@ fn from_parquet(leaf: &Leaf) -> Option<ArrowType>
 }
 
 // A decimal's precision and scale, as Arrow keeps them.
+// (They come as two numbers, as `LogicalType::Decimal` holds them, and the annotations stand arm by arm as in the Rust crate.)
 fn decimal_parts(scale: i32, precision: i32) -> Option<(u8, i8)>
     ensures { result ≡ decimal_parts scale precision }
 {

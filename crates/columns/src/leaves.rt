@@ -13,8 +13,8 @@ use crate::record::{PathRecord, enter};
 use schema::{Element, Refusal, Repetition, Schema};
 use tree::FlatTree;
 
-// The levels of the path walked so far. (Counted apart from the walk's `Levels`: that a listing and a conversion agree is a
-// law, and would be none of a step that they share.)
+// The levels of the path walked so far. (Not the walk's `Levels`: there is a third number; and that a listing and a conversion agree
+// is a law, which would be none of a step that they share.)
 #[derive(Clone, Copy)]
 struct Levels {
     repetition: u16,
@@ -104,6 +104,7 @@ fn root_number(parent: usize, number: usize, root: usize) -> usize
 }
 
 // Lists the leaves of an element's stretch; `levels` are those of its parent.
+// (Levels and `root` stand apart: levels rise at each element, the root is set below the schema's root alone.)
 #[cycle(list_children_list_element)]
 fn list_element(
     rows: &[Element],
@@ -222,6 +223,7 @@ fn walk(
 // path. Past them columns are empty and numbers 0; refused, they are so throughout. The path record has to be empty,
 // and is left as it was on every way out.
 // `law`: after any history of calls the columns are those of the elements that were spelled.
+// (Schema, elements and names are lent side by side with every call: a signature shows which memory it can touch.)
 pub fn list(
     schema: &Schema,
     elements: &[Element],

@@ -31,7 +31,8 @@ impl Length for usize {
     }
 }
 
-// Where bytes lie in a caller's memory; a name's, where nothing else is said.
+// Where bytes lie in a caller's memory; a name's, where nothing else is said. (A place, and no `&[u8]`: rows outlive no loan of
+// the memory, which is lent anew with each call.)
 #[derive(Clone, Copy, PartialEq, Eq, Debug)]
 pub struct Place<N = u8> {
     pub start: usize,

@@ -101,8 +101,8 @@ pub(crate) fn fill_sizes(rows: &mut [Element])
     }
 }
 
-// Whether each row's size is the one that the depths give, from the last row back as above. A loop, and no `all`: that a
-// subtree's end may be asked for rests on the answers before, of which a closure's clause cannot speak.
+// Whether each row's size is the one that the depths give, from the last row back as above. A loop: with `all` the proof did not
+// close, since that a subtree's end may be asked for rests on the answers before, of which a closure's clause cannot speak.
 pub(crate) fn keeps_sizes(rows: &[Element]) -> bool
     ensures { result ≡ sizes_kept rows.now }
 {

@@ -31,8 +31,8 @@ impl Length for usize {
     }
 }
 
-// Where bytes lie in a caller's memory; a name's, where nothing else is said. (A place, and no `&[u8]`: rows outlive no loan of
-// the memory, which is lent anew with each call.)
+// Where bytes lie in a caller's memory; a name's, where nothing else is said. (A place, and no `&[u8]`: the memory is lent anew
+// with each call, and a row keeps no loan of it.)
 #[derive(Clone, Copy, PartialEq, Eq, Debug)]
 pub struct Place<N = u8> {
     pub start: usize,

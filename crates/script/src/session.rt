@@ -121,6 +121,7 @@ impl Session {
             }),
             Command::Hints => self.check_hints(),
             Command::Select(Select::All) => Ok(Answer::SelectedAll),
+            // which of the two was meant plays no part in the flags
             Command::Select(Select::Leaves(numbers) | Select::Roots(numbers)) => {
                 Ok(self.flag_numbers(numbers))
             }

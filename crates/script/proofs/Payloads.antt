@@ -40,11 +40,11 @@ no_decimal first second none = none_of_four (codes "decimal") first second (λ a
 pub no_integer : (first second : List ℕ) → ((a : ℤ) (b : Sign) → NumberSpelled w8 first a → second ≡ sign_word b → ⊥) → (x : LogicalType) → PayloadSpelled (codes "integer") first second x → ⊥
 no_integer first second none = none_of_four (codes "integer") first second (λ _ _ e _ _. differ (codes "integer") (codes "decimal") refl e) (λ a b _. none a b) (λ _ _ e _ _. differ (codes "integer") (codes "time") refl e) (λ _ _ e _ _. differ (codes "integer") (codes "timestamp") refl e)
 
-pub no_time : (first second : List ℕ) → ((a : Clock) (b : TimeUnit) → first ≡ clock_word a → second ≡ unit_word b → ⊥) → (x : LogicalType) → PayloadSpelled (codes "time") first second x → ⊥
-no_time first second none = none_of_four (codes "time") first second (λ _ _ e _ _. differ (codes "time") (codes "decimal") refl e) (λ _ _ e _ _. differ (codes "time") (codes "integer") refl e) (λ a b _. none a b) (λ _ _ e _ _. differ (codes "time") (codes "timestamp") refl e)
+pub no_time : (kind first second : List ℕ) → kind ≡ codes "time" → ((a : Clock) (b : TimeUnit) → first ≡ clock_word a → second ≡ unit_word b → ⊥) → (x : LogicalType) → PayloadSpelled kind first second x → ⊥
+no_time kind first second is none = none_of_four kind first second (λ _ _ e _ _. differ (codes "time") (codes "decimal") refl (sym is ∙ e)) (λ _ _ e _ _. differ (codes "time") (codes "integer") refl (sym is ∙ e)) (λ a b _. none a b) (λ _ _ e _ _. differ (codes "time") (codes "timestamp") refl (sym is ∙ e))
 
-pub no_timestamp : (first second : List ℕ) → ((a : Clock) (b : TimeUnit) → first ≡ clock_word a → second ≡ unit_word b → ⊥) → (x : LogicalType) → PayloadSpelled (codes "timestamp") first second x → ⊥
-no_timestamp first second none = none_of_four (codes "timestamp") first second (λ _ _ e _ _. differ (codes "timestamp") (codes "decimal") refl e) (λ _ _ e _ _. differ (codes "timestamp") (codes "integer") refl e) (λ _ _ e _ _. differ (codes "timestamp") (codes "time") refl e) (λ a b _. none a b)
+pub no_timestamp : (kind first second : List ℕ) → kind ≡ codes "timestamp" → ((a : Clock) (b : TimeUnit) → first ≡ clock_word a → second ≡ unit_word b → ⊥) → (x : LogicalType) → PayloadSpelled kind first second x → ⊥
+no_timestamp kind first second is none = none_of_four kind first second (λ _ _ e _ _. differ (codes "timestamp") (codes "decimal") refl (sym is ∙ e)) (λ _ _ e _ _. differ (codes "timestamp") (codes "integer") refl (sym is ∙ e)) (λ _ _ e _ _. differ (codes "timestamp") (codes "time") refl (sym is ∙ e)) (λ a b _. none a b)
 
 -- a word in its parts is the logical type that the parts tell
 pub of_parts : (w kind first second : List ℕ) → Parts w kind first second → (r : Option LogicalType) → Read (PayloadSpelled kind first second) r → Read (SpelledInParts w) r

@@ -223,7 +223,8 @@ impl Hints {
         })
     }
 
-    // One row more, and its number.
+    // One row more, and its number. Where memory runs out, rows and open rows stay as they were: room for both is made
+    // before an open row ends.
     pub fn push(&mut self, line: HintLine<'_>) -> Result<usize, AllocError> {
         let number = self.rows.len();
         let name = self.lay(line.name)?;
@@ -234,6 +235,8 @@ impl Hints {
                 Some(Zone::Text(self.lay(zone)?)),
             ),
         };
+        self.rows.reserve(1)?;
+        self.open.reserve(1)?;
         self.end_rows(line.depth);
         self.rows.push(HintRow {
             name,

@@ -16,18 +16,14 @@ fn read_named(rt: &HostRuntime, name: &str) -> io::Result<Vec<u8>> {
 
 // The script that the program's argument names; with no argument, the built-in one.
 fn read_script(rt: &HostRuntime, built_in: &str) -> anyhow::Result<Vec<u8>> {
-    let heap = rt.alloc();
     let mut args = env::args(rt)?.skip(1);
     let Some(name) = args.next() else {
-        return Ok(built_in.as_bytes().to_vec(heap)?);
+        return Ok(built_in.as_bytes().to_vec(rt.alloc())?);
     };
     if args.next().is_some() {
         return Err(anyhow!("one script at most is run"));
     }
-    match read_named(rt, &name) {
-        Ok(script) => Ok(script),
-        Err(error) => Err(anyhow!(format!(in heap; "the script {name} cannot be read: {error}")?)),
-    }
+    read_named(rt, &name).map_err(|error| anyhow!("the script {name} cannot be read: {error}"))
 }
 
 // Runs a script line by line, and prints what came of each.

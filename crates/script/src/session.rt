@@ -42,14 +42,6 @@ pub enum Answer {
     Selected { flagged: usize },
 }
 
-// Which leaves are selected: all, those flagged, or those below flagged children of the root.
-#[derive(Clone, Copy)]
-enum Selected {
-    All,
-    Leaves,
-    Roots,
-}
-
 // The memory that is lent to each call, and the schema that lies in it.
 #[derive(Drop)]
 pub struct Session {
@@ -60,7 +52,6 @@ pub struct Session {
     columns: Vec<Column>,
     paths: Vec<usize>,
     walked: PathRecord,
-    selected: Selected,
     flags: Vec<bool>,
     hints: Hints,
 }
@@ -84,7 +75,6 @@ impl Session {
             columns: vec![in heap; Column::EMPTY; Element::MOST]?,
             paths: vec![in heap; 0; PATH_NUMBERS]?,
             walked: PathRecord::EMPTY,
-            selected: Selected::All,
             flags: vec![in heap; false; Element::MOST]?,
             hints: Hints::new(heap),
         })
@@ -130,9 +120,11 @@ impl Session {
                 row: self.hints.push(line)?,
             }),
             Command::Hints => self.check_hints(),
-            Command::Select(Select::All) => Ok(self.select_all()),
-            Command::Select(Select::Leaves(numbers)) => Ok(self.select(Selected::Leaves, numbers)),
-            Command::Select(Select::Roots(numbers)) => Ok(self.select(Selected::Roots, numbers)),
+            Command::Select(Select::All) => Ok(Answer::SelectedAll),
+            // which of the two was meant plays no part in the flags
+            Command::Select(Select::Leaves(numbers) | Select::Roots(numbers)) => {
+                Ok(self.flag_numbers(numbers))
+            }
             Command::Planned => Err(Failure::NotThereYet),
         }
     }
@@ -140,7 +132,6 @@ impl Session {
     fn begin(&mut self, name: &[u8], field_id: Option<i32>) -> Result<Answer, Failure> {
         let draft = Draft::begin(&mut self.elements, &mut self.names, name, field_id)?;
         self.stage = Some(Stage::Drafting(draft));
-        self.selected = Selected::All;
         self.hints.clear();
         Ok(Answer::Begun)
     }
@@ -219,15 +210,9 @@ impl Session {
         })
     }
 
-    fn select_all(&mut self) -> Answer {
-        self.selected = Selected::All;
-        Answer::SelectedAll
-    }
-
     // Flags the numbers of a line, which are those of leaves or of the root's children; a number outside the flags is
     // refused, and the others are flagged all the same.
-    fn select(&mut self, selected: Selected, numbers: &[u8]) -> Answer {
-        self.selected = selected;
+    fn flag_numbers(&mut self, numbers: &[u8]) -> Answer {
         self.flags.fill(false);
         let flagged = Words::new(numbers)
             .filter_map(number)

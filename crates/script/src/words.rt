@@ -1,9 +1,10 @@
 // The words of a line, and what each kind of word stands for.
-ghost use Rattle.std.specs.Prelude.{◌≡◌, ℕ, List, [], ◌∷◌, ◌++◌, Some, None, codes, MatchOption, Option, is_none, Ok, Err, IsUtf8};
+ghost use Rattle.std.specs.Prelude.{◌≡◌, ℕ, cond, List, [], ◌∷◌, ◌++◌, Some, None, codes, MatchOption, Option, is_none, Ok, Err, IsUtf8};
 ghost use Rattle.std.specs.Int.{w8, w32};
 ghost use Rattle.std.specs.Option.{option_map, unwrap_or};
 ghost use Rattle.std.specs.Iterator.{at_most};
 ghost use Rattle.script.specs.Cuts.{Lacks, Next, Parts, most_words};
+ghost use Rattle.script.specs.declared.words.Clock.TheVariants.{Utc, Local};
 ghost use Rattle.script.specs.Spelling.{NumberSpelled, OptionalSpelled, repetition_word, annotation_word, physical_word, converted_word, unit_word, sign_word, clock_word, PayloadSpelled, SpelledInParts, LogicalSpelled, Read};
 
 use schema::{Annotation, ConvertedType, LogicalType, PhysicalType, Repetition, TimeUnit};
@@ -273,73 +274,85 @@ impl FromWord for Clock {
 }
 
 // The parts of `kind(first,second)`.
-fn parts(word: &str) -> Option<(&str, &str, &str)>
-    ensures parts { MatchOption result ((kind first second : List ℕ) → Parts word.now kind first second → ⊥) (λ p. Parts word.now p.0.now p.1.now p.2.now) }
-{
-    let (kind, rest) = word.split_once('(')?;
-    let (first, second) = rest.strip_suffix(')')?.split_once(',')?;
-    Some((kind, first, second))
+#[derive(Clone, Copy)]
+struct WordParts<'a> {
+    kind: &'a str,
+    first: &'a str,
+    second: &'a str,
 }
 
-// What two words stand for.
-fn both<A: FromWord + Drop, B: FromWord>(first: &str, second: &str) -> Option<(A, B)>
-    ensures both { MatchOption result ((a : A) (b : B) → A.FromWord.spells first.now a → B.FromWord.spells second.now b → ⊥) (λ p. A.FromWord.spells first.now p.0 × B.FromWord.spells second.now p.1) }
-{
-    let a = A::from_word(first)?;
-    let b = B::from_word(second)?;
-    Some((a, b))
-}
+impl<'a> WordParts<'a> {
+    fn parse(word: &'a str) -> Option<WordParts<'a>>
+        ensures parts { MatchOption result ((kind first second : List ℕ) → Parts word.now kind first second → ⊥) (λ p. Parts word.now p.kind.now p.first.now p.second.now) }
+    {
+        let (kind, rest) = word.split_once('(')?;
+        let (first, second) = rest.strip_suffix(')')?.split_once(',')?;
+        Some(WordParts {
+            kind,
+            first,
+            second,
+        })
+    }
 
-#[tactic(auto, using(crate::proofs::Payloads::no_decimal))]
-fn decimal(first: &str, second: &str) -> Option<LogicalType>
-    ensures read { Read (PayloadSpelled (codes "decimal") first.now second.now) result }
-{
-    let (scale, precision) = both::<i32, i32>(first, second)?;
-    Some(LogicalType::Decimal { scale, precision })
-}
+    // What the first and the second part stand for.
+    fn both<A: FromWord + Drop, B: FromWord>(self) -> Option<(A, B)>
+        ensures both { MatchOption result ((a : A) (b : B) → A.FromWord.spells self.entry.first.now a → B.FromWord.spells self.entry.second.now b → ⊥) (λ p. A.FromWord.spells self.entry.first.now p.0 × B.FromWord.spells self.entry.second.now p.1) }
+    {
+        let a = A::from_word(self.first)?;
+        let b = B::from_word(self.second)?;
+        Some((a, b))
+    }
 
-#[tactic(auto, using(crate::proofs::Payloads::no_integer))]
-fn integer(first: &str, second: &str) -> Option<LogicalType>
-    ensures read { Read (PayloadSpelled (codes "integer") first.now second.now) result }
-{
-    let (bit_width, sign) = both::<i8, Sign>(first, second)?;
-    Some(LogicalType::Integer {
-        bit_width,
-        is_signed: matches!(sign, Sign::Signed),
-    })
-}
+    #[tactic(auto, using(crate::proofs::Payloads::no_decimal))]
+    fn decimal(self) -> Option<LogicalType>
+        ensures read { Read (PayloadSpelled (codes "decimal") self.entry.first.now self.entry.second.now) result }
+    {
+        let (scale, precision) = self.both::<i32, i32>()?;
+        Some(LogicalType::Decimal { scale, precision })
+    }
 
-#[tactic(auto, using(crate::proofs::Payloads::no_time))]
-fn time(first: &str, second: &str) -> Option<LogicalType>
-    ensures read { Read (PayloadSpelled (codes "time") first.now second.now) result }
-{
-    let (clock, unit) = both::<Clock, TimeUnit>(first, second)?;
-    Some(LogicalType::Time {
-        is_adjusted_to_utc: matches!(clock, Clock::Utc),
-        unit,
-    })
-}
+    #[tactic(auto, using(crate::proofs::Payloads::no_integer))]
+    fn integer(self) -> Option<LogicalType>
+        ensures read { Read (PayloadSpelled (codes "integer") self.entry.first.now self.entry.second.now) result }
+    {
+        let (bit_width, sign) = self.both::<i8, Sign>()?;
+        Some(LogicalType::Integer {
+            bit_width,
+            is_signed: matches!(sign, Sign::Signed),
+        })
+    }
 
-#[tactic(auto, using(crate::proofs::Payloads::no_timestamp))]
-fn timestamp(first: &str, second: &str) -> Option<LogicalType>
-    ensures read { Read (PayloadSpelled (codes "timestamp") first.now second.now) result }
-{
-    let (clock, unit) = both::<Clock, TimeUnit>(first, second)?;
-    Some(LogicalType::Timestamp {
-        is_adjusted_to_utc: matches!(clock, Clock::Utc),
-        unit,
-    })
-}
+    // Whether a time is adjusted to UTC, and its unit.
+    fn clock_and_unit(self) -> Option<(bool, TimeUnit)>
+        ensures read { MatchOption result ((clock : Clock) (unit : TimeUnit) → self.entry.first.now ≡ clock_word clock → self.entry.second.now ≡ unit_word unit → ⊥) (λ p. (self.entry.first.now ≡ clock_word (cond p.0 Utc Local)) × (self.entry.second.now ≡ unit_word p.1)) }
+    {
+        let (clock, unit) = self.both::<Clock, TimeUnit>()?;
+        Some((matches!(clock, Clock::Utc), unit))
+    }
 
-fn payload(kind: &str, first: &str, second: &str) -> Option<LogicalType>
-    ensures read { Read (PayloadSpelled kind.now first.now second.now) result }
-{
-    match kind {
-        "decimal" => decimal(first, second),
-        "integer" => integer(first, second),
-        "time" => time(first, second),
-        "timestamp" => timestamp(first, second),
-        _ => None,
+    #[tactic(auto, using(crate::proofs::Payloads::no_time, crate::proofs::Payloads::no_timestamp))]
+    fn payload(self) -> Option<LogicalType>
+        ensures read { Read (PayloadSpelled self.entry.kind.now self.entry.first.now self.entry.second.now) result }
+    {
+        match self.kind {
+            "decimal" => self.decimal(),
+            "integer" => self.integer(),
+            "time" => {
+                let (is_adjusted_to_utc, unit) = self.clock_and_unit()?;
+                Some(LogicalType::Time {
+                    is_adjusted_to_utc,
+                    unit,
+                })
+            }
+            "timestamp" => {
+                let (is_adjusted_to_utc, unit) = self.clock_and_unit()?;
+                Some(LogicalType::Timestamp {
+                    is_adjusted_to_utc,
+                    unit,
+                })
+            }
+            _ => None,
+        }
     }
 }
 
@@ -348,8 +361,7 @@ fn payload(kind: &str, first: &str, second: &str) -> Option<LogicalType>
 fn logical_of_parts(word: &str) -> Option<LogicalType>
     ensures read { Read (SpelledInParts word.now) result }
 {
-    let (kind, first, second) = parts(word)?;
-    payload(kind, first, second)
+    WordParts::parse(word)?.payload()
 }
 
 impl FromWord for LogicalType {

@@ -2,7 +2,7 @@ use Rattle.std.proofs.Common.{Some, lit<}
 use lib.Utf8.{encode}
 use Rattle.std.proofs.lemmas.Str.Pattern.{strip_suffix_char}
 use Rattle.script.proofs.Cutting.{no_kind, no_end, no_comma, in_parts}
-use Rattle.script.proofs.words.parts.Goals as goal
+use Rattle.script.proofs.words.WordParts.parse.Goals as goal
 
 pub returns-in_err-kind : goal.returns-in_err-kind
 returns-in_err-kind c =

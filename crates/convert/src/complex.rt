@@ -25,7 +25,7 @@ ghost use Rattle.convert.specs.Visit.{Meets, Seats, read_by, gives_as};
 use crate::context::{Cursor, Seat, Source, Task};
 use crate::hints::{Hints, is_any_list, is_map, is_struct};
 use crate::reading::{Node, is_optional};
-use crate::rows::{close, close_struct, head_of, is_chosen, is_wrapped, raise, write_leaf};
+use crate::rows::{Seated, close, head_of, is_chosen, raise};
 use arrow::{ArrowType, Entries, Field, HintRow, ResultRow, convert_primitive};
 use schema::{Annotation, Element, Kind, Leaf, Place, Refusal};
 use tree::FlatTree;
@@ -53,20 +53,16 @@ pub(crate) fn visit_primitive(
             leaf: from.leaf + 1,
         });
     }
-    let wrapped = is_wrapped(element, seat);
+    let seated = Seated {
+        hints: source.hints,
+        element,
+        seat,
+    };
+    let wrapped = seated.is_wrapped();
     let hint = source.hints.unwrap_list(at, wrapped, seat.hint)?;
     let data_type = convert_primitive(&leaf, at, source.hints.rows, source.hints.text, hint)?;
     let levels = raise(seat.levels, element);
-    Ok(write_leaf(
-        source.hints,
-        at,
-        element,
-        seat,
-        data_type,
-        levels,
-        from,
-        rows,
-    ))
+    Ok(seated.write_leaf(at, data_type, levels, from, rows))
 }
 
 // 20: a struct hint has another name for this child.
@@ -238,7 +234,12 @@ fn visit_struct(
     ensures { Visits (read_by source.entry) at seat from rows.old rows.new result }
 {
     let element = source.elements[at];
-    let wrapped = is_wrapped(element, seat);
+    let seated = Seated {
+        hints: source.hints,
+        element,
+        seat,
+    };
+    let wrapped = seated.is_wrapped();
     let hint = source.hints.unwrap_list(at, wrapped, seat.hint)?;
     check_struct(source.hints, Node::new(source.elements, at), hint)?;
     let levels = raise(seat.levels, element);
@@ -247,7 +248,7 @@ fn visit_struct(
         leaf: from.leaf,
     };
     let cursor = visit_fields(source, at, levels, hint, inner, rows)?;
-    Ok(close_struct(source.hints, element, seat, levels, from.row, cursor, rows))
+    Ok(seated.close_struct(levels, from.row, cursor, rows))
 }
 
 // Visits the fields of the struct at `at`, each with its hint.

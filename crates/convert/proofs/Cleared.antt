@@ -1,5 +1,5 @@
 -- A conversion's tables, before and after they are cleared.
-use Rattle.std.proofs.Common.{◌≡◌, ℕ, ◌-◌, ◌*◌, ◌/◌, ◌<◌, ◌≤◌, Bool, true, false, ◌&&◌, ltb, List, ◌++◌, map, length, take, drop, replicate, None, Ok, Err, Decides, Option, Result, sym, refl, ap, ◌∙◌, subst, ap₂, arith}
+use Rattle.std.proofs.Common.{◌≡◌, ℕ, ◌-◌, ◌*◌, ◌/◌, ◌<◌, ◌≤◌, Bool, true, false, ◌&&◌, ltb, List, ◌++◌, map, length, take, drop, replicate, None, Ok, Err, Option, Result, sym, refl, ap, ◌∙◌, subst, ap₂, arith}
 use borrow.Rule.Slice.PartMut.{put_mid}
 use Rattle.std.specs.List.{range_with_len}
 use Rattle.std.specs.Result.{is_err, result_unwrap_or}
@@ -136,7 +136,7 @@ pub lent_on : (els : List Element) (n m : ℕ) → n ≡ m → take (n - 0) els 
 lent_on els n m e = ap (λ (k : ℕ). take k els) (let z : n - 0 ≡ m = omega (arith, e) in z)
 
 module _ (s : Schema) (els : List Element) (ns : List ℕ) (set : ℕ → Bool) (hints : List HintRow) (text : List ℕ) (room flag_room : ℕ) where
-  module _ (k : true ≡ memory_kept s els ns) (d : Decides true (IsHint (length text) hints)) (n : ℕ) (e : n ≡ s.count) where
+  module _ (k : true ≡ memory_kept s els ns) (d : IsHint (length text) hints) (n : ℕ) (e : n ≡ s.count) where
     module _ (flags flags' : List Bool) (many : length flags ≡ flag_room) (m : ℕ) (c : m ≡ length (leaves_of (take (n - 0) els))) where
       counts : m ≡ length (leaves_of (take s.count els))
       counts = c ∙ ap (λ (l : List Element). length (leaves_of l)) (lent_on els n s.count e)
@@ -149,7 +149,7 @@ module _ (s : Schema) (els : List Element) (ns : List ℕ) (set : ℕ → Bool) 
           let by : (i : ℕ) → in_flags flags' i ≡ below L set i = (λ i. o.after i ∙ ap (λ (l : ℕ). below l set i) counts) in
           let w' : Walks (record { elements = take s.count els; names = ns; hints = hints; text = text; flags = flags' }) rows r =
           subst (λ (l : List Element). Walks (record { elements = l; names = ns; hints = hints; text = text; flags = flags' }) rows r) (lent_on els n s.count e) w in
-          walked (sym k) (d.0 refl)
+          walked (sym k) d
           (or_from (ltb room (2 * s.count)) (ltb flag_room L) (le-ltb room (2 * s.count) (omega (arith, e))) (sym (ap₂ ltb many counts) ∙ accepted_long (length flags) m o.answer))
           (chosen_flags set L flag_room flags' (o.count ∙ many) by)
           (λ tree hs l. subst (λ (x : Result (Forest Full) Refusal). Front ns x rows r) (walk_by_set ns text s.bytes (take s.count els) tree hs flags' set by) (w' s.bytes tree hs l))

@@ -1,5 +1,5 @@
 -- What a tree that lies at a place says of the table, and that there is one at most.
-use Rattle.std.proofs.Common.{◌≡◌, ℕ, suc, ◌+◌, ◌<◌, ◌≤◌, List, ◌∷◌, ◌++◌, length, get_or, drop, sym, refl, ap, ◌∙◌, subst, append_assoc, add-zero, add-one, arith, length-append, length-drop}
+use Rattle.std.proofs.Common.{◌≡◌, ℕ, suc, ◌+◌, ◌≤◌, List, ◌∷◌, ◌++◌, length, get_or, drop, sym, refl, ap, ◌∙◌, subst, append_assoc, add-zero, add-one, arith, length-append, length-drop}
 use Rattle.std.proofs.lemmas.List.{get_or-drop}
 use Rattle.tree.specs.Forest.{Forest, listing, count, Lists, size_at, tops, below_at, children}
 use Rattle.tree.specs.Forest.Forest.{bare, plant}
@@ -91,7 +91,3 @@ module _ (t : List Element) (i : ℕ) where
   abbrev pub rooted : (f : Forest Element) → Lists element_span f t → (e : Element) (b c : Forest Element) → Stands t i (plant e b c) → Rooted t i
   rooted f l e b c p =
       record { whole = f; lists = l; top = e; below = b; after = c; lies = p; inside = inside element_span t i e b c p; sized = sized e b c p }
-
-pub first_rooted : (t : List Element) (i : ℕ) (w : Forest Element) → Lists element_span w t → (f : Forest Element) → Stands t i f → 0 < count f → Rooted t i
-first_rooted t i w l bare p h = absurd (omega arith)
-first_rooted t i w l (plant e b c) p h = rooted t i w l e b c p

@@ -6,3 +6,4 @@ pub mod Own
 pub mod Walked
 pub mod Root
 pub mod Uncleared
+pub mod Given

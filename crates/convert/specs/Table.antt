@@ -26,6 +26,10 @@ Stands table i f = Lies element_span table i f
 abbrev pub element_at : List Element → ℕ → Element
 element_at table i = slice_index_or table i empty
 
+-- the elements are trees as a whole
+abbrev pub WholeElements : List Element → Type 0
+WholeElements table = (f : Forest Element) × Lists element_span f table
+
 -- an element's tree stands at `i`, in a table that is a tree as a whole
 pub record Rooted (table : List Element) (i : ℕ) : Type 0 where
   pub whole : Forest Element

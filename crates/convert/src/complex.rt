@@ -23,9 +23,9 @@ ghost use Rattle.convert.specs.Outcome.{Told};
 ghost use Rattle.convert.specs.Visit.{Meets, Seats, read_by, gives_as};
 
 use crate::context::{Cursor, Seat, Source, Task};
-use crate::hints::{is_any_list, is_map, is_struct};
-use crate::reading::{count_children, is_element, is_optional, role_at};
-use crate::rows::{close, close_struct, head_of, is_chosen, is_wrapped, raise, write_leaf};
+use crate::hints::{Hints, is_any_list, is_map, is_struct};
+use crate::reading::{Node, is_optional};
+use crate::rows::{Seated, close, head_of, is_chosen, raise};
 use arrow::{ArrowType, Entries, Field, HintRow, ResultRow, convert_primitive};
 use schema::{Annotation, Element, Kind, Leaf, Place, Refusal};
 use tree::FlatTree;
@@ -53,20 +53,16 @@ pub(crate) fn visit_primitive(
             leaf: from.leaf + 1,
         });
     }
-    let wrapped = is_wrapped(element, seat);
+    let seated = Seated {
+        hints: source.hints,
+        element,
+        seat,
+    };
+    let wrapped = seated.is_wrapped();
     let hint = source.hints.unwrap_list(at, wrapped, seat.hint)?;
     let data_type = convert_primitive(&leaf, at, source.hints.rows, source.hints.text, hint)?;
     let levels = raise(seat.levels, element);
-    Ok(write_leaf(
-        source.hints,
-        at,
-        element,
-        seat,
-        data_type,
-        levels,
-        from,
-        rows,
-    ))
+    Ok(seated.write_leaf(at, data_type, levels, from, rows))
 }
 
 // 20: a struct hint has another name for this child.
@@ -83,17 +79,15 @@ fn check_name(source: Source, at: usize, element: Element, task: Task) -> Result
     Ok(())
 }
 
-// 18, 19: the hint of the struct at `at` is no struct, or has another number of fields.
-fn check_struct(source: Source, at: usize, hint: Option<usize>) -> Result<(), Refusal>
-    requires root { Rooted (read_by source).elements at }
-    ensures { (e : Element) (below next : Forest Element) → Stands (read_by source.entry).elements at (plant e below next) → (hs : Forest Hint) → Hinted (read_by source.entry).hints (read_by source.entry).text hint hs → Passes (struct_checks at hs (trees below)) result }
+// 18, 19: the hint of a struct is no struct, or has another number of fields.
+fn check_struct(hints: Hints, group: Node, hint: Option<usize>) -> Result<(), Refusal>
+    ensures { (e : Element) (below next : Forest Element) → Stands group.entry.elements.now group.entry.at (plant e below next) → (hs : Forest Hint) → Hinted hints.entry.rows.now hints.entry.text.now hint hs → Passes (struct_checks group.entry.at hs (trees below)) result }
 {
-    if !source.hints.fits(hint, is_struct) {
-        return Err(Refusal::HintKind(at));
+    if !hints.fits(hint, is_struct) {
+        return Err(Refusal::HintKind(group.at));
     }
-    let fields = count_children(source.elements, at);
-    if !source.hints.has_children(hint, fields) {
-        return Err(Refusal::HintFieldCount(at));
+    if !hints.has_children(hint, group.count_children()) {
+        return Err(Refusal::HintFieldCount(group.at));
     }
     Ok(())
 }
@@ -240,16 +234,21 @@ fn visit_struct(
     ensures { Visits (read_by source.entry) at seat from rows.old rows.new result }
 {
     let element = source.elements[at];
-    let wrapped = is_wrapped(element, seat);
+    let seated = Seated {
+        hints: source.hints,
+        element,
+        seat,
+    };
+    let wrapped = seated.is_wrapped();
     let hint = source.hints.unwrap_list(at, wrapped, seat.hint)?;
-    check_struct(source, at, hint)?;
+    check_struct(source.hints, Node::new(source.elements, at), hint)?;
     let levels = raise(seat.levels, element);
     let inner = Cursor {
         row: head_of(element, from.row) + 1,
         leaf: from.leaf,
     };
     let cursor = visit_fields(source, at, levels, hint, inner, rows)?;
-    Ok(close_struct(source.hints, element, seat, levels, from.row, cursor, rows))
+    Ok(seated.close_struct(levels, from.row, cursor, rows))
 }
 
 // Visits the fields of the struct at `at`, each with its hint.
@@ -302,7 +301,7 @@ fn visit_list(
     let levels = raise(task.levels, group);
     let child = at + 1;
     let seat = element_seat(source, group, task, levels);
-    if is_element(source.elements, source.names, at) {
+    if Node::new(source.elements, at).is_element(source.names) {
         return visit_own(source, child, seat, from, rows);
     }
     let deeper = raise(levels, source.elements[child]);
@@ -390,7 +389,7 @@ fn dispatch(
 {
     let element = source.elements[at];
     check_name(source, at, element, task)?;
-    match role_at(source.elements, at)? {
+    match Node::new(source.elements, at).role()? {
         Role::Own => visit_own(source, at, field_seat(source, element, task), from, rows),
         Role::Listed => visit_list(source, at, task, from, rows),
         Role::Mapped => visit_map(source, at, task, from, rows),

@@ -6,7 +6,8 @@ ghost use Rattle.walk.specs.Forests.{planted};
 ghost use Rattle.walk.specs.Walk.{by_number, by_id, metadata_of, hinted_list, list_or, sorted_in, hinted_sorted, hinted_number};
 ghost use Rattle.convert.specs.Handed.{Hinted, HintsLeft, Sees, Unwrapped, WholeHints, named_as};
 
-use arrow::{ArrowType, HintRow, Metadata};
+use crate::HintSchema;
+use arrow::{ArrowType, HintRow, Metadata, check_hints};
 use schema::Refusal;
 use tree::FlatTree;
 
@@ -16,6 +17,24 @@ pub(crate) struct Hints<'a> {
     pub(crate) rows: &'a [HintRow],
     pub(crate) text: &'a [u8],
     ghost whole: { ∥ WholeHints rows.now ∥₁ },
+}
+
+impl<'a> TryFrom<HintSchema<'a>> for Hints<'a> {
+    type Error = Refusal;
+
+    ghost use Rattle.convert.specs.Given.{Given};
+
+    ghost try_from_gives = { λ schema result. Given schema.rows.now schema.text.now result };
+
+    fn try_from(schema: HintSchema<'a>) -> Result<Self, Refusal> {
+        if !check_hints(schema.rows, schema.text) {
+            return Err(Refusal::Hint);
+        }
+        Ok(Hints {
+            rows: schema.rows,
+            text: schema.text,
+        })
+    }
 }
 
 // The type if it is a list, else List.

@@ -20,7 +20,7 @@ mod rows;
 use crate::complex::visit_root;
 use crate::context::Source;
 use crate::hints::Hints;
-use arrow::{HintRow, ResultRow, check_hints};
+use arrow::{HintRow, ResultRow};
 use columns::count_leaves;
 use schema::{Element, Refusal, Schema};
 use selection::{Selection, choose};
@@ -71,19 +71,13 @@ fn walk_schema<S: Selection>(
     if !schema.check(elements, names) {
         return Err(Refusal::Memory);
     }
-    if !check_hints(hints.rows, hints.text) {
-        return Err(Refusal::Hint);
-    }
+    let hints = Hints::try_from(hints)?;
     let count = schema.elements();
     if rows.len() / 2 < count {
         return Err(Refusal::Table);
     }
     let counted = &elements[0..count];
     choose(selection, count_leaves(counted), chosen)?;
-    let hints = Hints {
-        rows: hints.rows,
-        text: hints.text,
-    };
     walk_elements(counted, names, hints, chosen, rows)
 }
 

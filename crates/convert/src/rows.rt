@@ -62,124 +62,6 @@ pub(crate) fn close(rows: &mut [ResultRow], start: usize, cursor: Cursor, row: R
     cursor
 }
 
-// Whether an element has a list for itself alone: it is repeated, and not the element of a list above it.
-pub(crate) fn is_wrapped(element: Element, seat: Seat) -> bool
-    ensures { result ≡ (is_repeated (or_required element.repetition) && not seat.element) }
-{
-    is_repeated(element) && !seat.element
-}
-
-// The field in which an element's outermost row stands.
-fn outer_field(seat: Seat, nullable: bool) -> Field
-    ensures { result ≡ outer_field seat nullable }
-{
-    Field {
-        name: seat.name,
-        nullable: !seat.key && nullable,
-        metadata: seat.metadata,
-    }
-}
-
-// The metadata of the inner of an element's two rows.
-#[tactic(auto, using(crate::proofs::Handing::left_sole))]
-fn inner_metadata(hints: Hints, seat: Seat) -> Option<Metadata>
-    ensures { (bytes : List ℕ) (hs : Forest Hint) → Hinted hints.entry.rows.now bytes seat.hint hs → result ≡ inner_of seat.element hs }
-{
-    if seat.element {
-        return None;
-    }
-    hints.metadata_of(hints.first(seat.hint), None)
-}
-
-// The field of an element's own row.
-fn own_field(hints: Hints, element: Element, seat: Seat) -> Field
-    ensures { (bytes : List ℕ) (hs : Forest Hint) → Hinted hints.entry.rows.now bytes seat.hint hs → result ≡ own_field seat hs element.name (or_required element.repetition) }
-{
-    if is_repeated(element) {
-        return Field {
-            name: element.name,
-            nullable: false,
-            metadata: inner_metadata(hints, seat),
-        };
-    }
-    outer_field(seat, is_optional(element))
-}
-
-// An element's own row, of size 1.
-pub(crate) fn own_row(
-    hints: Hints,
-    element: Element,
-    seat: Seat,
-    levels: Levels,
-    data_type: ArrowType,
-    leaf: Option<LeafNumbers>,
-) -> ResultRow
-    ensures { (bytes : List ℕ) (hs : Forest Hint) → Hinted hints.entry.rows.now bytes seat.hint hs → result ≡ own_row seat hs element.name (or_required element.repetition) levels data_type leaf }
-{
-    ResultRow {
-        rep_level: levels.rep,
-        def_level: levels.def,
-        nullable: is_optional(element),
-        data_type,
-        size: 1,
-        field: own_field(hints, element, seat),
-        leaf,
-        entries: None,
-    }
-}
-
-// The row of a list for an element alone.
-pub(crate) fn list_row(seat: Seat, levels: Levels) -> ResultRow
-    ensures { result ≡ list_row seat levels }
-{
-    ResultRow {
-        rep_level: levels.rep,
-        def_level: levels.def,
-        nullable: seat.null_above,
-        data_type: seat.list,
-        size: 1,
-        field: outer_field(seat, seat.null_above),
-        leaf: None,
-        entries: None,
-    }
-}
-
-// Writes the row of a leaf, and puts a list round it where it is repeated.
-#[tactic(auto, using(crate::proofs::Leaves::leaf_alone, crate::proofs::Leaves::leaf_listed))]
-pub(crate) fn write_leaf(
-    hints: Hints,
-    at: usize,
-    element: Element,
-    seat: Seat,
-    data_type: ArrowType,
-    levels: Levels,
-    from: Cursor,
-    rows: &mut [ResultRow],
-) -> Cursor
-    requires room { from.row + 2 ≤ length rows.old }
-    requires few { from.leaf + 1 < 2 ^ 64 }
-    ensures { (bytes names : List ℕ) (hs : Forest Hint) → Hinted hints.entry.rows.now bytes seat.hint hs → Wrote names (leaf_outcome names seat hs at from.leaf element.name (or_required element.repetition) levels data_type) from.row (from.leaf + 1) rows.old rows.new result }
-{
-    let numbers = LeafNumbers {
-        element: at,
-        leaf: from.leaf,
-    };
-    let row = own_row(hints, element, seat, levels, data_type, Some(numbers));
-    if is_repeated(element) {
-        rows[from.row + 1] = row;
-        let cursor = Cursor {
-            row: from.row + 2,
-            leaf: from.leaf + 1,
-        };
-        return close(rows, from.row, cursor, list_row(seat, levels));
-    }
-    rows[from.row] = row;
-    Cursor {
-        row: from.row + 1,
-        leaf: from.leaf + 1,
-    }
-}
-
 // Where a struct's own row goes: after its list's, if it has one.
 pub(crate) fn head_of(element: Element, start: usize) -> usize
     requires { start + 1 < 2 ^ 64 }
@@ -188,25 +70,145 @@ pub(crate) fn head_of(element: Element, start: usize) -> usize
     start + usize::from(is_repeated(element))
 }
 
-// Puts a struct's row round its fields' rows, and a list round it where it is repeated.
-#[tactic(auto, using(crate::proofs::Leaves::struct_listed))]
-pub(crate) fn close_struct(
-    hints: Hints,
-    element: Element,
-    seat: Seat,
-    levels: Levels,
-    start: usize,
-    cursor: Cursor,
-    rows: &mut [ResultRow],
-) -> Cursor
-    requires room { start + 1 < length rows.old }
-    requires past { (start + (if is_repeated (or_required element.repetition) then 1 else 0)) + 1 ≤ cursor.row }
-    ensures { StructClosed hints.entry.rows.now element seat levels start cursor rows.old rows.new result }
-{
-    let row = own_row(hints, element, seat, levels, ArrowType::Struct, None);
-    if is_repeated(element) {
-        let inner = close(rows, start + 1, cursor, row);
-        return close(rows, start, inner, list_row(seat, levels));
+impl Seat {
+    // The field in which an element's outermost row stands.
+    fn outer_field(self, nullable: bool) -> Field
+        ensures { result ≡ outer_field self nullable }
+    {
+        Field {
+            name: self.name,
+            nullable: !self.key && nullable,
+            metadata: self.metadata,
+        }
     }
-    close(rows, start, cursor, row)
+
+    // The row of a list for an element alone.
+    fn list_row(self, levels: Levels) -> ResultRow
+        ensures { result ≡ list_row self levels }
+    {
+        ResultRow {
+            rep_level: levels.rep,
+            def_level: levels.def,
+            nullable: self.null_above,
+            data_type: self.list,
+            size: 1,
+            field: self.outer_field(self.null_above),
+            leaf: None,
+            entries: None,
+        }
+    }
+}
+
+// An element with what it is told from above, and the hints.
+#[derive(Clone, Copy)]
+pub(crate) struct Seated<'a> {
+    pub(crate) hints: Hints<'a>,
+    pub(crate) element: Element,
+    pub(crate) seat: Seat,
+}
+
+impl<'a> Seated<'a> {
+    // Whether the element has a list for itself alone: it is repeated, and not the element of a list above it.
+    pub(crate) fn is_wrapped(self) -> bool
+        ensures { result ≡ (is_repeated (or_required self.entry.element.repetition) && not self.entry.seat.element) }
+    {
+        is_repeated(self.element) && !self.seat.element
+    }
+
+    // The metadata of the inner of the element's two rows.
+    #[tactic(auto, using(crate::proofs::Handing::left_sole))]
+    fn inner_metadata(self) -> Option<Metadata>
+        ensures { (bytes : List ℕ) (hs : Forest Hint) → Hinted self.entry.hints.rows.now bytes self.entry.seat.hint hs → result ≡ inner_of self.entry.seat.element hs }
+    {
+        if self.seat.element {
+            return None;
+        }
+        self.hints
+            .metadata_of(self.hints.first(self.seat.hint), None)
+    }
+
+    // The field of the element's own row.
+    fn own_field(self) -> Field
+        ensures { (bytes : List ℕ) (hs : Forest Hint) → Hinted self.entry.hints.rows.now bytes self.entry.seat.hint hs → result ≡ own_field self.entry.seat hs self.entry.element.name (or_required self.entry.element.repetition) }
+    {
+        if is_repeated(self.element) {
+            return Field {
+                name: self.element.name,
+                nullable: false,
+                metadata: self.inner_metadata(),
+            };
+        }
+        self.seat.outer_field(is_optional(self.element))
+    }
+
+    // The element's own row, of size 1.
+    fn own_row(self, levels: Levels, data_type: ArrowType, leaf: Option<LeafNumbers>) -> ResultRow
+        ensures { (bytes : List ℕ) (hs : Forest Hint) → Hinted self.entry.hints.rows.now bytes self.entry.seat.hint hs → result ≡ own_row self.entry.seat hs self.entry.element.name (or_required self.entry.element.repetition) levels data_type leaf }
+    {
+        ResultRow {
+            rep_level: levels.rep,
+            def_level: levels.def,
+            nullable: is_optional(self.element),
+            data_type,
+            size: 1,
+            field: self.own_field(),
+            leaf,
+            entries: None,
+        }
+    }
+
+    // Writes the row of a leaf, and puts a list round it where it is repeated.
+    #[tactic(auto, using(crate::proofs::Leaves::leaf_alone, crate::proofs::Leaves::leaf_listed))]
+    pub(crate) fn write_leaf(
+        self,
+        at: usize,
+        data_type: ArrowType,
+        levels: Levels,
+        from: Cursor,
+        rows: &mut [ResultRow],
+    ) -> Cursor
+        requires room { from.row + 2 ≤ length rows.old }
+        requires few { from.leaf + 1 < 2 ^ 64 }
+        ensures { (bytes names : List ℕ) (hs : Forest Hint) → Hinted self.entry.hints.rows.now bytes self.entry.seat.hint hs → Wrote names (leaf_outcome names self.entry.seat hs at from.leaf self.entry.element.name (or_required self.entry.element.repetition) levels data_type) from.row (from.leaf + 1) rows.old rows.new result }
+    {
+        let numbers = LeafNumbers {
+            element: at,
+            leaf: from.leaf,
+        };
+        let row = self.own_row(levels, data_type, Some(numbers));
+        if is_repeated(self.element) {
+            rows[from.row + 1] = row;
+            let cursor = Cursor {
+                row: from.row + 2,
+                leaf: from.leaf + 1,
+            };
+            return close(rows, from.row, cursor, self.seat.list_row(levels));
+        }
+        rows[from.row] = row;
+        Cursor {
+            row: from.row + 1,
+            leaf: from.leaf + 1,
+        }
+    }
+
+    // Puts a struct's row round its fields' rows, and a list round it where it is repeated.
+    #[tactic(auto, using(crate::proofs::Leaves::struct_listed))]
+    pub(crate) fn close_struct(
+        self,
+        levels: Levels,
+        start: usize,
+        cursor: Cursor,
+        rows: &mut [ResultRow],
+    ) -> Cursor
+        requires room { start + 1 < length rows.old }
+        requires past { (start + (if is_repeated (or_required self.element.repetition) then 1 else 0)) + 1 ≤ cursor.row }
+        ensures { StructClosed self.entry.hints.rows.now self.entry.element self.entry.seat levels start cursor rows.old rows.new result }
+    {
+        let row = self.own_row(levels, ArrowType::Struct, None);
+        if is_repeated(self.element) {
+            let inner = close(rows, start + 1, cursor, row);
+            return close(rows, start, inner, self.seat.list_row(levels));
+        }
+        close(rows, start, cursor, row)
+    }
 }

@@ -18,31 +18,31 @@ dispatch-returns-in_err-check_name t c =
     rw (p.1, p.2) (dispatch_misnamed (read_by c.args.source) c.args.at c.args.task c.args.from c.args.rows.now c.args.rows.now _ c.in_err-check_name.ensures)
 
 pub dispatch-unreachable-requires : goal.dispatch-unreachable-requires
-dispatch-unreachable-requires t c = never_below c.args.source.elements.now c.args.at _ c.in_ok-role_at.ensures c.requires.ready.root c.in-Middle.is
+dispatch-unreachable-requires t c = never_below c.args.source.elements.now c.args.at _ (rw (c.new.ensures.elements, c.new.ensures.at) at c.in_ok-role.ensures) c.requires.ready.root c.in-Middle.is
 
 pub dispatch-returns-in-Own : goal.dispatch-returns-in-Own
 dispatch-returns-in-Own t c =
-    dispatch_by (read_by c.args.source) c.args.at c.args.task c.args.from c.args.rows.now c.visit_own.new.rows c.in_ok-check_name.ensures (Ok own) (reads_as own c.in-Own.is c.in_ok-role_at.ensures) c.visit_own.result
+    dispatch_by (read_by c.args.source) c.args.at c.args.task c.args.from c.args.rows.now c.visit_own.new.rows c.in_ok-check_name.ensures (Ok own) (reads_as own c.in-Own.is (rw (c.new.ensures.elements, c.new.ensures.at) at c.in_ok-role.ensures)) c.visit_own.result
     (own_as (read_by c.args.source) c.args.at c.args.task c.args.from c.args.rows.now c.visit_own.new.rows c.field_seat.result c.field_seat.ensures.levels c.field_seat.ensures.above c.field_seat.ensures.seats c.visit_own.result c.visit_own.ensures)
 
 pub dispatch-returns-in-Listed : goal.dispatch-returns-in-Listed
 dispatch-returns-in-Listed t c =
-    dispatch_by (read_by c.args.source) c.args.at c.args.task c.args.from c.args.rows.now c.visit_list.new.rows c.in_ok-check_name.ensures (Ok listed) (reads_as listed c.in-Listed.is c.in_ok-role_at.ensures) c.visit_list.result c.visit_list.ensures
+    dispatch_by (read_by c.args.source) c.args.at c.args.task c.args.from c.args.rows.now c.visit_list.new.rows c.in_ok-check_name.ensures (Ok listed) (reads_as listed c.in-Listed.is (rw (c.new.ensures.elements, c.new.ensures.at) at c.in_ok-role.ensures)) c.visit_list.result c.visit_list.ensures
 
 pub dispatch-returns-in-Mapped : goal.dispatch-returns-in-Mapped
 dispatch-returns-in-Mapped t c =
-    dispatch_by (read_by c.args.source) c.args.at c.args.task c.args.from c.args.rows.now c.visit_map.new.rows c.in_ok-check_name.ensures (Ok mapped) (reads_as mapped c.in-Mapped.is c.in_ok-role_at.ensures) c.visit_map.result c.visit_map.ensures
+    dispatch_by (read_by c.args.source) c.args.at c.args.task c.args.from c.args.rows.now c.visit_map.new.rows c.in_ok-check_name.ensures (Ok mapped) (reads_as mapped c.in-Mapped.is (rw (c.new.ensures.elements, c.new.ensures.at) at c.in_ok-role.ensures)) c.visit_map.result c.visit_map.ensures
 
-pub dispatch-returns-in_err-role_at : goal.dispatch-returns-in_err-role_at
-dispatch-returns-in_err-role_at t c =
-    let p = err_from_is_err_and c.from_residual-in_err-role_at.result c.from_residual-in_err-role_at.ensures.1 in
-    rw (p.1, p.2) (dispatch_broken (read_by c.args.source) c.args.at c.args.task c.args.from c.args.rows.now c.args.rows.now c.in_ok-check_name.ensures _ c.in_err-role_at.ensures _ refl)
+pub dispatch-returns-in_err-role : goal.dispatch-returns-in_err-role
+dispatch-returns-in_err-role t c =
+    let p = err_from_is_err_and c.from_residual-in_err-role.result c.from_residual-in_err-role.ensures.1 in
+    rw (p.1, p.2) (dispatch_broken (read_by c.args.source) c.args.at c.args.task c.args.from c.args.rows.now c.args.rows.now c.in_ok-check_name.ensures _ (rw (c.new.ensures.elements, c.new.ensures.at) at c.in_err-role.ensures) _ refl)
 
 pub dispatch-visit_list-requires : goal.dispatch-visit_list-requires
-dispatch-visit_list-requires t c = (omega (arith, c.decreases), (c.requires.ready, (c.requires.hinted, reads_as listed c.in-Listed.is c.in_ok-role_at.ensures)))
+dispatch-visit_list-requires t c = (omega (arith, c.decreases), (c.requires.ready, (c.requires.hinted, reads_as listed c.in-Listed.is (rw (c.new.ensures.elements, c.new.ensures.at) at c.in_ok-role.ensures))))
 
 pub dispatch-visit_map-requires : goal.dispatch-visit_map-requires
-dispatch-visit_map-requires t c = (omega (arith, c.decreases), (c.requires.ready, (c.requires.hinted, reads_as mapped c.in-Mapped.is c.in_ok-role_at.ensures)))
+dispatch-visit_map-requires t c = (omega (arith, c.decreases), (c.requires.ready, (c.requires.hinted, reads_as mapped c.in-Mapped.is (rw (c.new.ensures.elements, c.new.ensures.at) at c.in_ok-role.ensures))))
 
 pub visit_fields-loop-child-init : goal.visit_fields-loop-child-init
 visit_fields-loop-child-init t c =
@@ -77,10 +77,13 @@ visit_list-visit_own-requires t c =
     let (hs, p) = c.requires.hinted in
     (omega (arith, c.decreases, z.0), (z.1, (_, (c.element_seat-seat.ensures.seats 0 0 hs p).hint)))
 
+pub visit_list-is_element-requires : goal.visit_list-is_element-requires
+visit_list-is_element-requires t c = rw (c.new.ensures.elements, c.new.ensures.at) c.requires.reads
+
 pub visit_list-returns-then-is_element : goal.visit_list-returns-then-is_element
 visit_list-returns-then-is_element t c =
     visits_itself (read_by c.args.source) c.args.at c.args.task c.args.from c.args.rows.now c.requires.reads (λ hs p. sym (c.fits.ensures c.args.source.hints.text.now hs p any_list (λ x b q. q.1)) ∙ c.if-not-fits.false)
-    c.is_element.result c.is_element.ensures c.if-is_element.true c.element_seat-seat.result (c.element_seat-seat.ensures.levels ∙ c.raise-levels.ensures) c.element_seat-seat.ensures.above c.element_seat-seat.ensures.seats
+    c.is_element.result (rw (c.new.ensures.elements, c.new.ensures.at) at c.is_element.ensures) c.if-is_element.true c.element_seat-seat.result (c.element_seat-seat.ensures.levels ∙ c.raise-levels.ensures) c.element_seat-seat.ensures.above c.element_seat-seat.ensures.seats
     c.visit_own.new.rows c.visit_own.result c.visit_own.ensures
 
 pub visit_list-bounds-source-child : goal.visit_list-bounds-source-child
@@ -90,7 +93,7 @@ visit_list-bounds-source-child t c =
 
 pub visit_list-dispatch-requires : goal.visit_list-dispatch-requires
 visit_list-dispatch-requires t c =
-    let z = item_ready (read_by c.args.source) c.args.at c.args.task c.args.from c.args.rows.now c.requires.reads c.is_element.result c.is_element.ensures c.if-is_element.false c.raise-levels.result c.raise-levels.ensures c.raise-deeper.result c.raise-deeper.ensures _ c.requires.ready in
+    let z = item_ready (read_by c.args.source) c.args.at c.args.task c.args.from c.args.rows.now c.requires.reads c.is_element.result (rw (c.new.ensures.elements, c.new.ensures.at) at c.is_element.ensures) c.if-is_element.false c.raise-levels.result c.raise-levels.ensures c.raise-deeper.result c.raise-deeper.ensures _ c.requires.ready in
     let (hs, p) = c.requires.hinted in
     (omega (arith, c.decreases, z.0), (z.1, (_, (c.element_seat-seat.ensures.seats 0 0 hs p).hint)))
 
@@ -98,11 +101,11 @@ pub visit_list-returns-in_err-cursor : goal.visit_list-returns-in_err-cursor
 visit_list-returns-in_err-cursor t c =
     let p = err_from_is_err_and c.from_residual.result c.from_residual.ensures.1 in
     rw (p.1, p.2)
-    (item_off (read_by c.args.source) c.args.at c.args.task c.args.from c.args.rows.now c.requires.reads c.is_element.result c.is_element.ensures c.if-is_element.false c.raise-levels.result c.raise-levels.ensures c.raise-deeper.result c.raise-deeper.ensures (λ hs p. sym (c.fits.ensures c.args.source.hints.text.now hs p any_list (λ x b q. q.1)) ∙ c.if-not-fits.false) c.element_seat-seat.result.hint (λ hs p. (c.element_seat-seat.ensures.seats 0 0 hs p).hint) c.dispatch.new.rows _ c.in_err-cursor.ensures)
+    (item_off (read_by c.args.source) c.args.at c.args.task c.args.from c.args.rows.now c.requires.reads c.is_element.result (rw (c.new.ensures.elements, c.new.ensures.at) at c.is_element.ensures) c.if-is_element.false c.raise-levels.result c.raise-levels.ensures c.raise-deeper.result c.raise-deeper.ensures (λ hs p. sym (c.fits.ensures c.args.source.hints.text.now hs p any_list (λ x b q. q.1)) ∙ c.if-not-fits.false) c.element_seat-seat.result.hint (λ hs p. (c.element_seat-seat.ensures.seats 0 0 hs p).hint) c.dispatch.new.rows _ c.in_err-cursor.ensures)
 
 pub visit_list-close-requires : goal.visit_list-close-requires
 visit_list-close-requires t c =
-    let z = item_ready (read_by c.args.source) c.args.at c.args.task c.args.from c.args.rows.now c.requires.reads c.is_element.result c.is_element.ensures c.if-is_element.false c.raise-levels.result c.raise-levels.ensures c.raise-deeper.result c.raise-deeper.ensures _ c.requires.ready in
+    let z = item_ready (read_by c.args.source) c.args.at c.args.task c.args.from c.args.rows.now c.requires.reads c.is_element.result (rw (c.new.ensures.elements, c.new.ensures.at) at c.is_element.ensures) c.if-is_element.false c.raise-levels.result c.raise-levels.ensures c.raise-deeper.result c.raise-deeper.ensures _ c.requires.ready in
     let (hs, p) = c.requires.hinted in
     let r = z.1.root in
     let w = c.in_ok-cursor.ensures r.top r.below r.after r.lies _ (c.element_seat-seat.ensures.seats 0 0 hs p).hint in
@@ -110,7 +113,7 @@ visit_list-close-requires t c =
 
 pub visit_list-returns : goal.visit_list-returns
 visit_list-returns t c =
-    item_done (read_by c.args.source) c.args.at c.args.task c.args.from c.args.rows.now c.requires.reads c.is_element.result c.is_element.ensures c.if-is_element.false c.raise-levels.result c.raise-levels.ensures c.raise-deeper.result c.raise-deeper.ensures (λ hs p. sym (c.fits.ensures c.args.source.hints.text.now hs p any_list (λ x b q. q.1)) ∙ c.if-not-fits.false) c.element_seat-seat.result.hint (λ hs p. (c.element_seat-seat.ensures.seats 0 0 hs p).hint)
+    item_done (read_by c.args.source) c.args.at c.args.task c.args.from c.args.rows.now c.requires.reads c.is_element.result (rw (c.new.ensures.elements, c.new.ensures.at) at c.is_element.ensures) c.if-is_element.false c.raise-levels.result c.raise-levels.ensures c.raise-deeper.result c.raise-deeper.ensures (λ hs p. sym (c.fits.ensures c.args.source.hints.text.now hs p any_list (λ x b q. q.1)) ∙ c.if-not-fits.false) c.element_seat-seat.result.hint (λ hs p. (c.element_seat-seat.ensures.seats 0 0 hs p).hint)
     c.dispatch.new.rows c.close.new.rows c.in_ok-cursor.cursor c.close.result c.in_ok-cursor.ensures (omega arith) c.middle_row-row.result c.middle_row-row.ensures c.close.ensures.wrote
 
 pub visit_map-returns-in_err-check_map : goal.visit_map-returns-in_err-check_map
@@ -203,7 +206,7 @@ visit_struct-returns-in_err-hint t c =
 pub visit_struct-returns-in_err-check_struct : goal.visit_struct-returns-in_err-check_struct
 visit_struct-returns-in_err-check_struct t c =
     let p = err_from_is_err_and c.from_residual-in_err-check_struct.result c.from_residual-in_err-check_struct.ensures.1 in
-    rw (p.1, p.2) (struct_other (read_by c.args.source) c.args.at c.args.seat c.args.from c.args.rows.now c.args.rows.now c.requires.kind.0 c.requires.kind.1 c.is_wrapped-wrapped.result c.is_wrapped-wrapped.ensures c.in_ok-hint.hint c.in_ok-hint.ensures _ c.in_err-check_struct.ensures)
+    rw (p.1, p.2) (struct_other (read_by c.args.source) c.args.at c.args.seat c.args.from c.args.rows.now c.args.rows.now c.requires.kind.0 c.requires.kind.1 c.is_wrapped-wrapped.result c.is_wrapped-wrapped.ensures c.in_ok-hint.hint c.in_ok-hint.ensures _ (rw (c.new.ensures.elements, c.new.ensures.at) at c.in_err-check_struct.ensures))
 
 pub visit_struct-visit_fields-requires : goal.visit_struct-visit_fields-requires
 visit_struct-visit_fields-requires t c = (
@@ -217,7 +220,7 @@ visit_struct-visit_fields-requires t c = (
 pub visit_struct-returns-in_err-cursor : goal.visit_struct-returns-in_err-cursor
 visit_struct-returns-in_err-cursor t c =
     let p = err_from_is_err_and c.from_residual-in_err-cursor.result c.from_residual-in_err-cursor.ensures.1 in
-    rw (p.1, p.2) (struct_broken (read_by c.args.source) c.args.at c.args.seat c.args.from c.args.rows.now c.visit_fields.new.rows c.requires.kind.0 c.requires.kind.1 c.is_wrapped-wrapped.result c.is_wrapped-wrapped.ensures c.in_ok-hint.hint c.in_ok-hint.ensures c.in_ok-check_struct.ensures c.raise-levels.result c.raise-levels.ensures c.head_of.result c.head_of.ensures _ c.in_err-cursor.ensures)
+    rw (p.1, p.2) (struct_broken (read_by c.args.source) c.args.at c.args.seat c.args.from c.args.rows.now c.visit_fields.new.rows c.requires.kind.0 c.requires.kind.1 c.is_wrapped-wrapped.result c.is_wrapped-wrapped.ensures c.in_ok-hint.hint c.in_ok-hint.ensures (rw (c.new.ensures.elements, c.new.ensures.at) at c.in_ok-check_struct.ensures) c.raise-levels.result c.raise-levels.ensures c.head_of.result c.head_of.ensures _ c.in_err-cursor.ensures)
 
 pub visit_struct-close_struct-requires-clause-past : goal.visit_struct-close_struct-requires-clause-past
 visit_struct-close_struct-requires-clause-past t c =
@@ -227,5 +230,5 @@ visit_struct-close_struct-requires-clause-past t c =
 
 pub visit_struct-returns : goal.visit_struct-returns
 visit_struct-returns t c =
-    struct_done (read_by c.args.source) c.args.at c.args.seat c.args.from c.args.rows.now c.close_struct.new.rows c.requires.kind.0 c.requires.kind.1 c.is_wrapped-wrapped.result c.is_wrapped-wrapped.ensures c.in_ok-hint.hint c.in_ok-hint.ensures c.in_ok-check_struct.ensures c.raise-levels.result c.raise-levels.ensures c.head_of.result c.head_of.ensures c.visit_fields.new.rows c.in_ok-cursor.cursor c.close_struct.result (omega arith)
+    struct_done (read_by c.args.source) c.args.at c.args.seat c.args.from c.args.rows.now c.close_struct.new.rows c.requires.kind.0 c.requires.kind.1 c.is_wrapped-wrapped.result c.is_wrapped-wrapped.ensures c.in_ok-hint.hint c.in_ok-hint.ensures (rw (c.new.ensures.elements, c.new.ensures.at) at c.in_ok-check_struct.ensures) c.raise-levels.result c.raise-levels.ensures c.head_of.result c.head_of.ensures c.visit_fields.new.rows c.in_ok-cursor.cursor c.close_struct.result (omega arith)
     c.in_ok-cursor.ensures c.close_struct.ensures

@@ -6,16 +6,16 @@ use Rattle.convert.proofs.complex.check_struct.Goals as goal
 
 pub returns-then-not-fits : goal.returns-then-not-fits
 returns-then-not-fits c = λ e b n q hs p.
-    (_, struct_other c.args.at (trees b) hs (sym (c.fits.ensures c.args.source.hints.text.now hs p any_struct (λ x b q. q.1)) ∙ c.if-not-fits.true))
+    (_, struct_other c.args.group.at (trees b) hs (sym (c.fits.ensures c.args.hints.text.now hs p any_struct (λ x b q. q.1)) ∙ c.if-not-fits.true))
 
 pub returns-then-not-has_children : goal.returns-then-not-has_children
 returns-then-not-has_children c = λ e b n q hs p. (
   [],
-  struct_by c.args.at (trees b) hs (sym (c.fits.ensures c.args.source.hints.text.now hs p any_struct (λ x b q. q.1)) ∙ c.if-not-fits.false) false
-      (ap (λ (m : ℕ). has_children m hs) (sym (c.count_children-fields.ensures.trees e b n q)) ∙ sym (c.has_children.ensures c.args.source.hints.text.now hs p) ∙ c.if-not-has_children.true),
+  struct_by c.args.group.at (trees b) hs (sym (c.fits.ensures c.args.hints.text.now hs p any_struct (λ x b q. q.1)) ∙ c.if-not-fits.false) false
+      (ap (λ (m : ℕ). has_children m hs) (sym (c.count_children.ensures.trees e b n q)) ∙ sym (c.has_children.ensures c.args.hints.text.now hs p) ∙ c.if-not-has_children.true),
 )
 
 pub returns : goal.returns
 returns c = λ e b n q hs p.
-    struct_by c.args.at (trees b) hs (sym (c.fits.ensures c.args.source.hints.text.now hs p any_struct (λ x b q. q.1)) ∙ c.if-not-fits.false) true
-    (ap (λ (m : ℕ). has_children m hs) (sym (c.count_children-fields.ensures.trees e b n q)) ∙ sym (c.has_children.ensures c.args.source.hints.text.now hs p) ∙ c.if-not-has_children.false)
+    struct_by c.args.group.at (trees b) hs (sym (c.fits.ensures c.args.hints.text.now hs p any_struct (λ x b q. q.1)) ∙ c.if-not-fits.false) true
+    (ap (λ (m : ℕ). has_children m hs) (sym (c.count_children.ensures.trees e b n q)) ∙ sym (c.has_children.ensures c.args.hints.text.now hs p) ∙ c.if-not-has_children.false)

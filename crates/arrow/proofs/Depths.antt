@@ -1,11 +1,13 @@
 -- How deep the rows of a hint lie.
-use Rattle.std.proofs.Common.{◌≡◌, ℕ, zero, suc, ◌+◌, ◌-◌, ◌<◌, ◌≤◌, Bool, true, false, ◌&&◌, List, [], ◌∷◌, ◌++◌, length, get_or, drop, sym, refl, ap, ◌∙◌, subst, inl, inr, append_assoc, add-one, arith, length-append}
-use Rattle.std.proofs.lemmas.Bool.{false≢true, cases_lt, lt-ltb, le-ltb, and_parts, and_from}
-use Rattle.tree.specs.Forest.{Forest, listing, count, depth}
+use Rattle.std.proofs.Common.{◌≡◌, ℕ, zero, suc, ◌+◌, ◌-◌, ◌<◌, Bool, true, false, cond, ltb, ◌&&◌, List, [], ◌∷◌, length, get_or, drop, sym, refl, ap, ap₂, ◌∙◌, subst, inl, inr, arith, length-append}
+use Rattle.std.proofs.lemmas.Bool.{false≢true, cases_lt, lt-ltb, le-ltb, and_parts, and_from, cond-true, cond-false}
+use Rattle.std.proofs.Math.Bool.{and-true}
+use Rattle.tree.specs.Forest.{Forest, Lists, listing, count, tops, below_at, children, depth}
 use Rattle.tree.specs.Forest.Forest.{bare, plant}
-use Rattle.tree.proofs.Trees.{drop_next, drop_past}
+use Rattle.tree.proofs.Depths.{below_fits}
 use Rattle.arrow.specs.declared.hint.HintRow.{HintRow}
-use Rattle.arrow.specs.HintTrees.{empty_hint, shallow, Lies}
+use Rattle.arrow.specs.Kinds.{hint_span}
+use Rattle.arrow.specs.HintTrees.{empty_hint, shallow, tree_at}
 
 -- the first row of what is left
 pub getD_first : {A : Type 0} (xs : List A) (i : ℕ) (d x : A) (ys : List A) → drop i xs ≡ x ∷ ys → get_or xs i d ≡ x
@@ -14,100 +16,57 @@ getD_first [] (suc i) d x ys e = absurd (omega (arith, ap length e))
 getD_first (y ∷ xs) zero d x ys e = cc
 getD_first (y ∷ xs) (suc i) d x ys e = getD_first xs i d x ys e
 
--- The first tree of a forest that lies in the rows, and the trees after it.
-pub record Front (rows : List HintRow) (at : ℕ) (g : Forest HintRow) : Type 0 where
-  pub row : HintRow
-  pub under : Forest HintRow
-  pub after : Forest HintRow
-  pub is : g ≡ plant row under after
-  pub first : get_or rows at empty_hint ≡ row
-  pub size : row.size ≡ suc (count under)
-  pub counts : count g ≡ suc (count under) + count after
-  pub below_lies : Lies rows (at + 1) under
-  pub after_lies : Lies rows (at + suc (count under)) after
+-- What lies below a row that is itself below another.
+below_below : (f : Forest HintRow) (p j i : ℕ) → i ≡ p + 1 + j → j < count (below_at f p) → below_at f i ≡ below_at (below_at f p) j
+below_below bare p j i e h = absurd (omega arith)
+below_below (plant r v w) p j zero e h = absurd (omega arith)
+below_below (plant r v w) zero j (suc i) e h =
+    let n : i ≡ j = omega arith in
+    cond-true (ltb i (count v)) (below_at v i) (below_at w (i - count v)) (lt-ltb i (count v) (omega arith)) ∙ ap (below_at v) n
+below_below (plant r v w) (suc p) j (suc i) e h =
+    elim (cases_lt p (count v)) [
+      | inl lt ↦ let k : j < count (below_at v p) = subst (λ b. j < count (cond b (below_at v p) (below_at w (p - count v)))) (lt-ltb p (count v) lt) h in
+          cond-true (ltb i (count v)) (below_at v i) (below_at w (i - count v)) (lt-ltb i (count v) (omega (arith, below_fits v p lt)))
+          ∙ below_below v p j i (omega arith) k
+          ∙ ap (λ u. below_at u j) (sym (cond-true (ltb p (count v)) (below_at v p) (below_at w (p - count v)) (lt-ltb p (count v) lt)))
+      | inr ge ↦ let k : j < count (below_at w (p - count v)) = subst (λ b. j < count (cond b (below_at v p) (below_at w (p - count v)))) (le-ltb p (count v) ge) h in
+          cond-false (ltb i (count v)) (below_at v i) (below_at w (i - count v)) (le-ltb i (count v) (omega arith))
+          ∙ below_below w (p - count v) j (i - count v) (omega arith) k
+          ∙ ap (λ u. below_at u j) (sym (cond-false (ltb p (count v)) (below_at v p) (below_at w (p - count v)) (le-ltb p (count v) ge)))
+    ]
 
-pub front : (rows : List HintRow) (at : ℕ) (g : Forest HintRow) → Lies rows at g → 0 < count g → Front rows at g
-front rows at bare l h = absurd (omega arith)
-front rows at (plant r v w) l h =
-    let e : drop at rows ≡ r ∷ (listing v ++ (listing w ++ l.rest)) = l.here ∙ ap (λ xs. r ∷ xs) (append_assoc (listing v) (listing w) l.rest) in
-    record {
-      row = r;
-      under = v;
-      after = w;
-      is = refl;
-      first = getD_first rows at empty_hint r (listing v ++ (listing w ++ l.rest)) e;
-      size = l.sized.0;
-      counts = omega (arith, length-append (listing v) (listing w));
-      below_lies = record { rest = listing w ++ l.rest; here = ap (λ n. drop n rows) (add-one at) ∙ drop_next rows at r (listing v ++ (listing w ++ l.rest)) e; sized = l.sized.1 };
-      after_lies = record { rest = l.rest; here = drop_past rows at (r ∷ listing v) (listing w ++ l.rest) e; sized = l.sized.2 };
-    }
+-- The first tree, and those after it.
+shallow_first : (d : ℕ) (r s : HintRow) (v w : Forest HintRow) → shallow d (plant r v w) ≡ (shallow d (plant s v bare) && shallow d w)
+shallow_first zero r s v w = refl
+shallow_first (suc d) r s v w = elim (shallow d v) as (λ b. (b && shallow (suc d) w) ≡ ((b && true) && shallow (suc d) w)) [ true ↦ refl | false ↦ refl ]
 
--- What the loop over the trees of a forest keeps: what is left decides.
-pub record Under (rows : List HintRow) (from at end levels : ℕ) : Type 0 where
-  pub within : at ≤ end
-  pub follows : (f : Forest HintRow) → Lies rows from f → from + count f ≡ end → (g : Forest HintRow) × Lies rows at g × (at + count g ≡ end) × (shallow levels f ≡ shallow levels g)
+-- whether each place passes
+abbrev pub every : (ℕ → Bool) → List ℕ → Bool
+every p [] = true
+every p (x ∷ xs) = p x && every p xs
 
-no_room : (g : Forest HintRow) → 0 < count g → shallow 0 g ≡ false
-no_room bare h = absurd (omega arith)
-no_room (plant r v w) h = refl
+-- A forest is shallow where each of its trees is.
+each_shallow : (f : Forest HintRow) (rows : List HintRow) (d : ℕ) (b : Forest HintRow) (q : ℕ) → ((j : ℕ) → j < count b → below_at f (q + j) ≡ below_at b j) → shallow d b ≡ every (λ c. shallow d (tree_at f rows c)) (tops q b)
+each_shallow f rows d bare q h = refl
+each_shallow f rows d (plant r v w) q h =
+    let first : below_at f q ≡ v = ap (below_at f) (let e : q ≡ q + 0 = omega arith in e) ∙ h 0 (omega arith) in
+    let n = length-append (listing v) (listing w) in
+    let after = each_shallow f rows d w (q + suc (count v)) (λ j k.
+    ap (below_at f) (let e : q + suc (count v) + j ≡ q + suc (count v + j) = omega arith in e) ∙ h (suc (count v + j)) (omega (arith, n))
+    ∙ cond-false (ltb (count v + j) (count v)) (below_at v (count v + j)) (below_at w (count v + j - count v)) (le-ltb (count v + j) (count v) (omega arith))
+    ∙ ap (below_at w) (let e : count v + j - count v ≡ j = omega arith in e)) in
+    shallow_first d r (get_or rows q empty_hint) v w ∙ ap₂ (λ x y. x && y) (ap (λ u. shallow d (plant (get_or rows q empty_hint) u bare)) (sym first)) after
 
-empty : (levels : ℕ) (g : Forest HintRow) → count g ≡ 0 → shallow levels g ≡ true
-empty levels bare h = refl
-empty levels (plant r v w) h = absurd (omega arith)
+-- The loop over the children of a row: those left decide.
+abbrev pub Left : List HintRow → ℕ → ℕ → List ℕ → Type 0
+Left rows at levels cs = (f : Forest HintRow) → Lists hint_span f rows → shallow levels (tree_at f rows at) ≡ every (λ c. shallow (levels - 1) (tree_at f rows c)) cs
 
-module _ {rows : List HintRow} {from end levels : ℕ} where
-  pub begins : from ≤ end → Under rows from from end levels
-  begins h = record { within = h; follows = λ f l e. (f, l, e, refl) }
-
-  module _ {at : ℕ} (u : Under rows from at end levels) where
-    -- at the end
-    pub all_shallow : end ≤ at → (f : Forest HintRow) → Lies rows from f → from + count f ≡ end → true ≡ shallow levels f
-    all_shallow h f l e = let k = u.follows f l e in sym (k.3 ∙ empty levels k.0 (omega (arith, k.2, u.within)))
-
-    -- no level is left
-    pub too_deep : levels ≡ 0 → at < end → (f : Forest HintRow) → Lies rows from f → from + count f ≡ end → false ≡ shallow levels f
-    too_deep z h f l e =
-        let k = u.follows f l e in
-        sym (k.3 ∙ ap (λ n. shallow n k.0) z ∙ no_room k.0 (omega (arith, k.2)))
-
-    -- no size of a forest is like this
-    pub no_size : ((get_or rows at empty_hint).size ≡ 0) → at < end → (f : Forest HintRow) → Lies rows from f → from + count f ≡ end → false ≡ shallow levels f
-    no_size z h f l e =
-        let k = u.follows f l e in
-        let p = front rows at k.0 k.1 (omega (arith, k.2)) in
-        absurd (omega (arith, ap (λ r. r.size) p.first, p.size, z))
-
-    pub long_size : end - at < (get_or rows at empty_hint).size → at < end → (f : Forest HintRow) → Lies rows from f → from + count f ≡ end → false ≡ shallow levels f
-    long_size z h f l e =
-        let k = u.follows f l e in
-        let p = front rows at k.0 k.1 (omega (arith, k.2)) in
-        absurd (omega (arith, ap (λ r. r.size) p.first, p.size, p.counts, k.2, z))
-
-    -- the rows below the next row, as the walk down finds them
-    module _ (h : at < end) (r : Bool) (fits : (get_or rows at empty_hint).size ≤ end - at) (some : 0 < levels)
-        (down : (f : Forest HintRow) → Lies rows (at + 1) f → at + 1 + count f ≡ at + (get_or rows at empty_hint).size → r ≡ shallow (levels - 1) f) where
-      split : (g : Forest HintRow) → Lies rows at g → (p : Front rows at g) → shallow levels g ≡ (r && shallow levels p.after)
-      split g l p =
-          let n : levels ≡ suc (levels - 1) = omega arith in
-          let inner : r ≡ shallow (levels - 1) p.under = down p.under p.below_lies (omega (arith, ap (λ x. x.size) p.first, p.size)) in
-          ap (shallow levels) p.is ∙ ap (λ m. shallow m (plant p.row p.under p.after)) n ∙ ap (λ b. b && shallow (suc (levels - 1)) p.after) (sym inner) ∙ ap (λ m. r && shallow m p.after) (sym n)
-
-      pub deep_below : r ≡ false → (f : Forest HintRow) → Lies rows from f → from + count f ≡ end → false ≡ shallow levels f
-      deep_below z f l e =
-          let k = u.follows f l e in
-          let p = front rows at k.0 k.1 (omega (arith, k.2)) in
-          sym (k.3 ∙ split k.0 k.1 p ∙ ap (λ b. b && shallow levels p.after) z)
-
-      pub goes_on : r ≡ true → Under rows from (at + (get_or rows at empty_hint).size) end levels
-      goes_on z =
-          record {
-            within = omega arith;
-            follows = λ f l e.
-                let k = u.follows f l e in
-                let p = front rows at k.0 k.1 (omega (arith, k.2)) in
-                let size : suc (count p.under) ≡ (get_or rows at empty_hint).size = sym p.size ∙ ap (λ x. x.size) (sym p.first) in
-                (p.after, subst (λ m. Lies rows (at + m) p.after) size p.after_lies, omega (arith, size, p.counts, k.2), k.3 ∙ split k.0 k.1 p ∙ ap (λ b. b && shallow levels p.after) z);
-          }
+pub begins : (rows : List HintRow) (at levels : ℕ) → 0 < levels → (cs : List ℕ) → ((f : Forest HintRow) → Lists hint_span f rows → cs ≡ children f at) → Left rows at levels cs
+begins rows at levels h cs e f l =
+    ap (λ n. shallow n (tree_at f rows at)) (let n : levels ≡ suc (levels - 1) = omega arith in n)
+    ∙ and-true (shallow (levels - 1) (below_at f at))
+    ∙ each_shallow f rows (levels - 1) (below_at f at) (at + 1) (λ j k. below_below f at j (at + 1 + j) refl k)
+    ∙ ap (every (λ c. shallow (levels - 1) (tree_at f rows c))) (sym (e f l))
 
 -- At most d rows one above another: each row has fewer than d above it.
 

@@ -1,6 +1,6 @@
 -- Which rows are a hint.
-use Rattle.std.specs.Prelude.{◌≡◌, ℕ, zero, suc, ◌<◌, ◌≤◌, Bool, true, false, ◌&&◌, ◌⊎◌, List, [], ◌++◌, length, drop, ◌==◌, nat_le, slice_index_or, Some, None, Option}
-use Rattle.tree.specs.Forest.{Forest, Tree, alone, listing, Sized, Lists, depth, children}
+use Rattle.std.specs.Prelude.{◌≡◌, ℕ, zero, suc, ◌<◌, ◌≤◌, Bool, true, false, ◌&&◌, ◌⊎◌, List, [], length, ◌==◌, nat_le, slice_index_or, Some, None, Option}
+use Rattle.tree.specs.Forest.{Forest, Tree, alone, Lists, below_at, depth, children}
 use Rattle.tree.specs.Forest.Forest.{bare, plant}
 use Rattle.schema.specs.Elements.{lies_inside}
 use Rattle.arrow.specs.declared.types.Zone.{Zone}
@@ -71,8 +71,6 @@ shallow d bare = true
 shallow zero (plant h below after) = false
 shallow (suc d) (plant h below after) = shallow d below && shallow (suc d) after
 
--- the forest lies in the rows from the place i on
-pub record Lies (rows : List HintRow) (i : ℕ) (f : Forest HintRow) : Type 0 where
-  pub rest : List HintRow
-  pub here : drop i rows ≡ listing f ++ rest
-  pub sized : Sized hint_span f
+-- the row at a place, and the forest below it
+abbrev pub tree_at : Forest HintRow → List HintRow → ℕ → Forest HintRow
+tree_at f rows i = plant (slice_index_or rows i empty_hint) (below_at f i) bare

@@ -1,8 +1,8 @@
 // The rows of an Arrow schema that is given as a hint.
-ghost use Rattle.std.specs.Prelude.{◌≡◌, ◌+◌, ◌≤◌, length, Decides};
-ghost use Rattle.tree.specs.Forest.{Forest, Lists, count};
+ghost use Rattle.std.specs.Prelude.{◌≡◌, length, Decides};
+ghost use Rattle.tree.specs.Forest.{Forest, Lists};
 ghost use Rattle.arrow.specs.Kinds.{hint_span};
-ghost use Rattle.arrow.specs.HintTrees.{brood_of, brood_kept, zone_inside, hint_kept, HintsKept, IsHint, shallow, Lies};
+ghost use Rattle.arrow.specs.HintTrees.{brood_of, brood_kept, zone_inside, hint_kept, HintsKept, IsHint, shallow, tree_at};
 
 use crate::same::zone_of;
 use crate::types::{ArrowType, TextPlace, Zone};
@@ -14,7 +14,7 @@ pub struct HintRow {
     pub name: TextPlace,
     pub data_type: ArrowType,
     pub nullable: bool,
-    // a number of its writer's, 0 for none: so those who lay out hint rows give it
+    // a number of its writer's, 0 for none: the row's documented form (docs/RULES.md)
     pub metadata: u32,
     // the rows of its subtree, itself counted
     pub size: usize,
@@ -43,25 +43,21 @@ pub fn check_hints(rows: &[HintRow], text: &[u8]) -> bool
     if !FlatTree::new(rows).check() {
         return false;
     }
-    is_shallow(rows, 0, rows.len(), 129) && keeps_hints(rows, text.len())
+    is_shallow(rows, 0, 129) && keeps_hints(rows, text.len())
 }
 
-// Whether the rows from one place to another, which are whole trees, lie at most so many one above another. It goes by
-// the sizes, as no item of the slice is a tree: `at` leads from each tree to the next.
-fn is_shallow(rows: &[HintRow], from: usize, end: usize, levels: u8) -> bool
-    requires { (from ≤ end) × (end ≤ length rows.now) }
-    ensures { (f : Forest HintRow) → Lies rows.now from f → from + count f ≡ end → result ≡ shallow levels f }
+// Whether the row at `at` and what is below it, of rows that are a tree, lie at most so many one above another.
+#[tactic(auto, using(crate::proofs::Depths::begins))]
+fn is_shallow(rows: &[HintRow], at: usize, levels: u8) -> bool
+    ensures { (f : Forest HintRow) → Lists hint_span f rows.now → result ≡ shallow levels (tree_at f rows.now at) }
 {
-    let mut at = from;
-    while at < end {
-        let size = rows[at].size;
-        if levels == 0 || size == 0 || size > end - at {
+    if levels == 0 {
+        return false;
+    }
+    for child in FlatTree::new(rows).children(at) {
+        if !is_shallow(rows, child, levels - 1) {
             return false;
         }
-        if !is_shallow(rows, at + 1, at + size, levels - 1) {
-            return false;
-        }
-        at += size;
     }
     true
 }

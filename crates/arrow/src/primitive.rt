@@ -24,9 +24,7 @@ pub fn convert_primitive(
 ) -> Result<ArrowType, Refusal>
     ensures answer { result ≡ answered element (converted_leaf leaf.now hints.now text.now row) }
 {
-    let Some(parquet) = from_parquet(leaf) else {
-        return Err(Refusal::LeafType(element));
-    };
+    let parquet = from_parquet(leaf).ok_or(Refusal::LeafType(element))?;
     match row {
         Some(row) => Ok(apply_hint(is_unit_fixed(leaf.physical), parquet, hints, text, row)),
         None => Ok(parquet),

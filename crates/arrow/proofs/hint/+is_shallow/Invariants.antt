@@ -1,12 +1,8 @@
-use Rattle.std.proofs.Common.{◌-◌}
-use Rattle.arrow.proofs.Depths.{Under}
+use Rattle.arrow.proofs.Depths.{Left}
 use Rattle.arrow.proofs.hint.+is_shallow.Given as goal
 
 abbrev pub decreases-is_shallow : goal.decreases-is_shallow
 decreases-is_shallow l = l.levels
 
-abbrev pub invariant-loop-at : goal.invariant-loop-at
-invariant-loop-at l = Under l.rows l.initial.at l.at l.end l.levels
-
-abbrev pub decreases-loop-at : goal.decreases-loop-at
-decreases-loop-at l = l.end - l.at
+abbrev pub invariant-loop-child : goal.invariant-loop-child
+invariant-loop-child l = Left l.rows l.at l.levels l.child-iterator

@@ -26,7 +26,7 @@ use crate::context::{Cursor, Seat, Source, Task};
 use crate::hints::{is_any_list, is_map, is_struct};
 use crate::reading::{count_children, is_element, is_optional, role_at};
 use crate::rows::{close, close_struct, head_of, is_chosen, is_wrapped, raise, write_leaf};
-use arrow::{ArrowType, Entries, Field, HintRow, ResultRow, convert_primitive};
+use arrow::{ArrowType, Entries, Field, HintRow, HintSchema, ResultRow, convert_primitive};
 use schema::{Annotation, Element, Kind, Leaf, Place, Refusal};
 use tree::FlatTree;
 use walk::{Levels, Role};
@@ -55,7 +55,11 @@ pub(crate) fn visit_primitive(
     }
     let wrapped = is_wrapped(element, seat);
     let hint = source.hints.unwrap_list(at, wrapped, seat.hint)?;
-    let data_type = convert_primitive(&leaf, at, source.hints.rows, source.hints.text, hint)?;
+    let schema = HintSchema {
+        rows: source.hints.rows,
+        text: source.hints.text,
+    };
+    let data_type = convert_primitive(&leaf, at, schema, hint)?;
     let levels = raise(seat.levels, element);
     Ok(write_leaf(
         source.hints,

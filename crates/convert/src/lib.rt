@@ -20,17 +20,11 @@ mod rows;
 use crate::complex::visit_root;
 use crate::context::Source;
 use crate::hints::Hints;
-use arrow::{HintRow, ResultRow, check_hints};
+pub use arrow::HintSchema;
+use arrow::{ResultRow, check_hints};
 use columns::count_leaves;
 use schema::{Element, Refusal, Schema};
 use selection::{Selection, choose};
-
-// An Arrow schema that is given as a hint: its rows, and the text that their names and zones lie in. No rows, no hint.
-#[derive(Clone, Copy)]
-pub struct HintSchema<'a> {
-    pub rows: &'a [HintRow],
-    pub text: &'a [u8],
-}
 
 // Walks the counted elements, and answers how many rows were written.
 // (`finished` is asked here and of the visit of the root; a type for finished rows would be made and taken apart between the two.)
@@ -71,7 +65,7 @@ fn walk_schema<S: Selection>(
     if !schema.check(elements, names) {
         return Err(Refusal::Memory);
     }
-    if !check_hints(hints.rows, hints.text) {
+    if !check_hints(hints) {
         return Err(Refusal::Hint);
     }
     let count = schema.elements();

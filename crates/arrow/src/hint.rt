@@ -32,18 +32,26 @@ impl Row for HintRow {
     }
 }
 
+// An Arrow schema that is given as a hint: its rows, and the text that their names and zones lie in. No rows, no hint.
+#[derive(Clone, Copy)]
+pub struct HintSchema<'a> {
+    pub rows: &'a [HintRow],
+    pub text: &'a [u8],
+}
+
 // Whether the rows are a hint: none at all, or a flat tree whose rows go down to depth 128 at most and have the children
 // that their types want, with names and zones inside the text and no empty zone.
-pub fn check_hints(rows: &[HintRow], text: &[u8]) -> bool
-    ensures accepts { Decides result (IsHint (length text.now) rows.now) }
+pub fn check_hints(hints: HintSchema) -> bool
+    ensures accepts { Decides result (IsHint (length hints.entry.text.now) hints.entry.rows.now) }
 {
+    let rows = hints.rows;
     if rows.is_empty() {
         return true;
     }
     if !FlatTree::new(rows).check() {
         return false;
     }
-    is_shallow(rows, 0, 129) && keeps_hints(rows, text.len())
+    is_shallow(rows, 0, 129) && keeps_hints(rows, hints.text.len())
 }
 
 // Whether the row at `at` and what is below it, of rows that are a tree, lie at most so many one above another.

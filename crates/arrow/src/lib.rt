@@ -7,7 +7,7 @@ mod row;
 mod same;
 mod types;
 
-pub use hint::{HintRow, check_hints};
+pub use hint::{HintRow, HintSchema, check_hints};
 pub use primitive::{convert_primitive, leaf_laws};
 pub use row::{Entries, Field, LeafNumbers, Metadata, ResultRow};
 pub use same::same_type;

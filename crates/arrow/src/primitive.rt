@@ -5,7 +5,7 @@ ghost use Rattle.arrow.specs.Hints.{is_dictionary, told, only_child, plain_hint,
 ghost use Rattle.arrow.specs.Convert.{unit_fixed, converted_leaf, answered};
 ghost use Rattle.arrow.specs.Laws.{LeafLaws};
 
-use crate::hint::HintRow;
+use crate::hint::{HintRow, HintSchema};
 use crate::same::same_type;
 use crate::types::{ArrowType, IntervalUnit, TimeUnit, Zone};
 use schema::{
@@ -14,19 +14,17 @@ use schema::{
 
 // The type of the leaf that the element has, with the hint at the row that is given, if any. A leaf with no Arrow type is
 // refused. Hint rows need not be checked: a row past the last, and a dictionary without just one child, count as absent.
-// (`hints` and `text` stand apart, as in `check_hints`: nothing is known of the two together.)
 pub fn convert_primitive(
     leaf: &Leaf,
     element: usize,
-    hints: &[HintRow],
-    text: &[u8],
+    hints: HintSchema,
     row: Option<usize>,
 ) -> Result<ArrowType, Refusal>
-    ensures answer { result ≡ answered element (converted_leaf leaf.now hints.now text.now row) }
+    ensures answer { result ≡ answered element (converted_leaf leaf.now hints.entry.rows.now hints.entry.text.now row) }
 {
     let parquet = from_parquet(leaf).ok_or(Refusal::LeafType(element))?;
     match row {
-        Some(row) => Ok(apply_hint(is_unit_fixed(leaf.physical), parquet, hints, text, row)),
+        Some(row) => Ok(apply_hint(is_unit_fixed(leaf.physical), parquet, hints, row)),
         None => Ok(parquet),
     }
 }
@@ -46,27 +44,21 @@ fn is_unit_fixed(physical: PhysicalType) -> bool
 
 // What the hint at a row makes of the leaf's own type, so that the data come back as they were written. `unit_fixed`: an
 // annotation says the unit of a time.
-fn apply_hint(
-    unit_fixed: bool,
-    parquet: ArrowType,
-    hints: &[HintRow],
-    text: &[u8],
-    row: usize,
-) -> ArrowType
-    ensures { result ≡ hinted unit_fixed text.now parquet row (drop row hints.now) }
+fn apply_hint(unit_fixed: bool, parquet: ArrowType, hints: HintSchema, row: usize) -> ArrowType
+    ensures { result ≡ hinted unit_fixed hints.entry.text.now parquet row (drop row hints.entry.rows.now) }
 {
-    let Some(&hint) = hints.get(row) else {
+    let Some(&hint) = hints.rows.get(row) else {
         return parquet;
     };
     if !is_dictionary(hint.data_type) {
         return plain_hint(unit_fixed, parquet, hint.data_type);
     }
     let below = row + 1;
-    match hints.get(below) {
+    match hints.rows.get(below) {
         // the value type is tried as the hint
         Some(&child) if is_only_child(hint, child) => {
-            let inner = apply_hint(unit_fixed, parquet, hints, text, below);
-            keep_dictionary(row, type_told(child, below), inner, text)
+            let inner = apply_hint(unit_fixed, parquet, hints, below);
+            keep_dictionary(row, type_told(child, below), inner, hints.text)
         }
         _ => parquet,
     }

@@ -630,6 +630,10 @@ fn hint_of(data_type: A, size: usize) -> HintRow {
     }
 }
 
+fn beside_text(rows: &[HintRow]) -> HintSchema<'_> {
+    HintSchema { rows, text: &TEXT }
+}
+
 fn hints_of(types: [A; 3], sizes: [usize; 3]) -> [HintRow; 3] {
     array::from_fn(|i| hint_of(types[i], sizes[i]))
 }
@@ -638,16 +642,16 @@ fn hints_of(types: [A; 3], sizes: [usize; 3]) -> [HintRow; 3] {
 fn types_by_annotation(rt: HostRuntime) {
     for &(physical, length, logical, own) in BY_LOGICAL.iter() {
         let leaf = leaf(physical, length, Some(logical), Some(C::Utf8));
-        assert!(rt; is(convert_primitive(&leaf, 3, &[], &TEXT, None), own));
+        assert!(rt; is(convert_primitive(&leaf, 3, beside_text(&[]), None), own));
     }
     for &(physical, length, converted, own) in BY_CONVERTED.iter() {
         let leaf = leaf(physical, length, None, converted);
-        assert!(rt; is(convert_primitive(&leaf, 3, &[], &TEXT, None), own));
+        assert!(rt; is(convert_primitive(&leaf, 3, beside_text(&[]), None), own));
     }
     let leaf = leaf(P::Int32, 0, None, Some(C::Utf8));
     assert!(rt;
         matches!(
-            convert_primitive(&leaf, 7, &[], &TEXT, None),
+            convert_primitive(&leaf, 7, beside_text(&[]), None),
             Err(Refusal::LeafType(7))
         )
     );
@@ -660,7 +664,7 @@ fn types_under_hints(rt: HostRuntime) {
         let hints = [hint_of(hint, 1)];
         assert!(rt;
             is(
-                convert_primitive(&leaf, 3, &hints, &TEXT, Some(0)),
+                convert_primitive(&leaf, 3, beside_text(&hints), Some(0)),
                 Some(own),
             )
         );
@@ -670,7 +674,7 @@ fn types_under_hints(rt: HostRuntime) {
         let hints = [hint_of(hint, 1)];
         assert!(rt;
             is(
-                convert_primitive(&leaf, 3, &hints, &TEXT, Some(0)),
+                convert_primitive(&leaf, 3, beside_text(&hints), Some(0)),
                 Some(own),
             )
         );
@@ -684,7 +688,7 @@ fn dictionaries_and_zones(rt: HostRuntime) {
         let hints = hints_of(types, sizes);
         assert!(rt;
             is(
-                convert_primitive(&leaf, 3, &hints, &TEXT, Some(0)),
+                convert_primitive(&leaf, 3, beside_text(&hints), Some(0)),
                 Some(own),
             )
         );
@@ -694,13 +698,13 @@ fn dictionaries_and_zones(rt: HostRuntime) {
     let leaf = leaf(BYTES, 0, Some(L::String), None);
     assert!(rt;
         is(
-            convert_primitive(&leaf, 3, &hints, &TEXT, Some(1)),
+            convert_primitive(&leaf, 3, beside_text(&hints), Some(1)),
             Some(A::Dictionary(1)),
         )
     );
     assert!(rt;
         is(
-            convert_primitive(&leaf, 3, &hints, &TEXT, Some(3)),
+            convert_primitive(&leaf, 3, beside_text(&hints), Some(3)),
             Some(A::Utf8),
         )
     );
@@ -712,21 +716,18 @@ fn dictionaries_and_zones(rt: HostRuntime) {
 }
 
 fn accepts_first(rows: &[HintRow], count: usize) -> bool {
-    count <= rows.len() && check_hints(&rows[..count], &TEXT)
+    count <= rows.len() && check_hints(beside_text(&rows[..count]))
 }
 
 fn accepts_place(name: TextPlace, zone: Option<Zone>) -> bool {
     let data_type = A::Timestamp(TimeUnit::Second, zone);
-    check_hints(
-        &[HintRow {
-            name,
-            data_type,
-            nullable: true,
-            metadata: 0,
-            size: 1,
-        }],
-        &TEXT,
-    )
+    check_hints(beside_text(&[HintRow {
+        name,
+        data_type,
+        nullable: true,
+        metadata: 0,
+        size: 1,
+    }]))
 }
 
 // A list of lists, down to one row with nothing below.
@@ -755,14 +756,14 @@ fn hint_rows(rt: HostRuntime) {
     assert!(rt; !accepts_place(none, Some(Zone::Utc)));
     let mut deepest = [hint_of(A::Null, 1); 129];
     chain(&mut deepest);
-    assert!(rt; check_hints(&deepest, &TEXT));
+    assert!(rt; check_hints(beside_text(&deepest)));
     let mut too_deep = [hint_of(A::Null, 1); 130];
     chain(&mut too_deep);
-    assert!(rt; !check_hints(&too_deep, &TEXT));
+    assert!(rt; !check_hints(beside_text(&too_deep)));
     let mut most = [hint_of(A::Null, 1); 4096];
     most[0] = hint_of(A::Struct, 4096);
-    assert!(rt; check_hints(&most, &TEXT));
+    assert!(rt; check_hints(beside_text(&most)));
     let mut many = [hint_of(A::Null, 1); 4097];
     many[0] = hint_of(A::Struct, 4097);
-    assert!(rt; !check_hints(&many, &TEXT));
+    assert!(rt; !check_hints(beside_text(&many)));
 }

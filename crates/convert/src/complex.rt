@@ -26,7 +26,7 @@ use crate::context::{Cursor, Seat, Source, Task};
 use crate::hints::{Hints, is_any_list, is_map, is_struct};
 use crate::reading::{Node, is_optional};
 use crate::rows::{Seated, close, head_of, is_chosen, raise};
-use arrow::{ArrowType, Entries, Field, HintRow, ResultRow, convert_primitive};
+use arrow::{ArrowType, Entries, Field, HintRow, HintSchema, ResultRow, convert_primitive};
 use schema::{Annotation, Element, Kind, Leaf, Place, Refusal};
 use tree::FlatTree;
 use walk::{Levels, Role};
@@ -60,7 +60,11 @@ pub(crate) fn visit_primitive(
     };
     let wrapped = seated.is_wrapped();
     let hint = source.hints.unwrap_list(at, wrapped, seat.hint)?;
-    let data_type = convert_primitive(&leaf, at, source.hints.rows, source.hints.text, hint)?;
+    let schema = HintSchema {
+        rows: source.hints.rows,
+        text: source.hints.text,
+    };
+    let data_type = convert_primitive(&leaf, at, schema, hint)?;
     let levels = raise(seat.levels, element);
     Ok(seated.write_leaf(at, data_type, levels, from, rows))
 }

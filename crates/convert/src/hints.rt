@@ -27,7 +27,7 @@ impl<'a> TryFrom<HintSchema<'a>> for Hints<'a> {
     ghost try_from_gives = { λ schema result. Given schema.rows.now schema.text.now result };
 
     fn try_from(schema: HintSchema<'a>) -> Result<Self, Refusal> {
-        if !check_hints(schema.rows, schema.text) {
+        if !check_hints(schema) {
             return Err(Refusal::Hint);
         }
         Ok(Hints {

@@ -20,17 +20,11 @@ mod rows;
 use crate::complex::visit_root;
 use crate::context::Source;
 use crate::hints::Hints;
-use arrow::{HintRow, ResultRow};
+pub use arrow::HintSchema;
+use arrow::ResultRow;
 use columns::count_leaves;
 use schema::{Element, Refusal, Schema};
 use selection::{Selection, choose};
-
-// An Arrow schema that is given as a hint: its rows, and the text that their names and zones lie in. No rows, no hint.
-#[derive(Clone, Copy)]
-pub struct HintSchema<'a> {
-    pub rows: &'a [HintRow],
-    pub text: &'a [u8],
-}
 
 // Walks the counted elements, and answers how many rows were written.
 // (`finished` is asked here and of the visit of the root; a type for finished rows would be made and taken apart between the two.)

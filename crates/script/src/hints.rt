@@ -1,6 +1,6 @@
 // Hint rows: how a script spells them, and how they are printed.
 use crate::show::Text;
-use arrow::{ArrowType, HintRow, IntervalUnit, TextPlace, TimeUnit, Zone, check_hints};
+use arrow::{ArrowType, HintRow, HintSchema, IntervalUnit, TextPlace, TimeUnit, Zone, check_hints};
 use schema::Refusal;
 use std::alloc::{AllocError, Global};
 use std::fmt;
@@ -272,7 +272,11 @@ impl Hints {
     // Gives the open rows the sizes that they have so far, and refuses rows that are no hint.
     pub fn check(&mut self) -> Result<(), Refusal> {
         self.size_rows(0);
-        if check_hints(&self.rows, &self.text) {
+        let hints = HintSchema {
+            rows: &self.rows,
+            text: &self.text,
+        };
+        if check_hints(hints) {
             Ok(())
         } else {
             Err(Refusal::Hint)

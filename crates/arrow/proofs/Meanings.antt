@@ -1,5 +1,5 @@
 -- When two types mean the same: the test decides whether their meanings are equal.
-use Rattle.std.proofs.Common.{◌≡◌, ℕ, Bool, true, false, ◌&&◌, eqb, List, ℤ, Some, None, Decides, Option, refl, sym, ap, subst, ap₂, ◌∙◌, arith, rules}
+use Rattle.std.proofs.Common.{◌≡◌, ℕ, true, ◌&&◌, eqb, List, ℤ, Some, None, Decides, Option, refl, ap, subst, ap₂, rules}
 use Rattle.std.specs.Str.{bytes_eq}
 use Rattle.std.proofs.lemmas.Bool.{false≢true, and_parts}
 use Rattle.std.proofs.lemmas.Slice.Eq.{bytes_eq-Decides}
@@ -7,7 +7,6 @@ use Rattle.std.proofs.lemmas.Bool.Decides.{Decides-like, Decides-and, Decides-eq
 use Rattle.std.specs.Cmp.{booleans_Decides}
 use Rattle.std.specs.Ordering.{int_eq}
 use Rattle.arrow.specs.declared.types.TimeUnit.{TimeUnit}
-use Rattle.arrow.specs.declared.types.Zone.{Zone}
 use Rattle.arrow.specs.declared.types.ArrowType.{ArrowType}
 use Rattle.arrow.specs.declared.types.ArrowType.TheVariants as a
 use Rattle.arrow.specs.contracts.types.ArrowTypePartialEq.TheImpl as derived
@@ -83,36 +82,3 @@ same_decides text x y =
 
 pub same_refl : (text : List ℕ) (x : ArrowType) → same text x x ≡ true
 same_refl text x = (same_decides text x x).1 refl
-
--- Where one of two types has no zone, the derived `==` is the test.
-
-unzoned : (x : ArrowType) → zone_of x ≡ None → bared x ≡ x
-unzoned (a.Timestamp u None) e = refl
-unzoned (a.Timestamp u (Some z)) e = absurd (let z : ◌≡◌ {A = ℕ} 0 1 = cc in omega arith)
-unzoned x e = refl
-
-unspelled : (text : List ℕ) (z : Option Zone) → spelled_if_any text z ≡ None → z ≡ None
-unspelled text None e = refl
-unspelled text (Some z) e = absurd (let z : ◌≡◌ {A = ℕ} 0 1 = cc in omega arith)
-
-both_or_none : (b c : Bool) → (b ≡ true → c ≡ true) → (c ≡ true → b ≡ true) → b ≡ c
-both_or_none true c f g = sym (f refl)
-both_or_none false true f g = g refl
-both_or_none false false f g = refl
-
-one_meaning : (text : List ℕ) (x y : ArrowType) → zone_of x ≡ None → zone_of y ≡ None → meaning text x ≡ meaning text y → x ≡ y
-one_meaning text x y e f m = sym (unzoned x e) ∙ ap (λ p. p.0) m ∙ unzoned y f
-
-pub unzoned_left : (text : List ℕ) (x y : ArrowType) → zone_of x ≡ None → derived.ghosts.eq x y ≡ same text x y
-unzoned_left text x y e =
-    both_or_none (derived.ghosts.eq x y) (same text x y)
-    (λ t. (same_decides text x y).1 (ap (meaning text) ((type_decides x y).0 t)))
-    (λ t. let m = (same_decides text x y).0 t in
-    (type_decides x y).1 (one_meaning text x y e (unspelled text (zone_of y) (sym (ap (λ p. p.1) m) ∙ ap (spelled_if_any text) e)) m))
-
-pub unzoned_right : (text : List ℕ) (x y : ArrowType) → zone_of y ≡ None → derived.ghosts.eq x y ≡ same text x y
-unzoned_right text x y f =
-    both_or_none (derived.ghosts.eq x y) (same text x y)
-    (λ t. (same_decides text x y).1 (ap (meaning text) ((type_decides x y).0 t)))
-    (λ t. let m = (same_decides text x y).0 t in
-    (type_decides x y).1 (one_meaning text x y (unspelled text (zone_of x) (ap (λ p. p.1) m ∙ ap (spelled_if_any text) f)) f m))

@@ -1,6 +1,6 @@
 // When two Arrow types mean the same.
 ghost use Rattle.std.specs.Prelude.{◌≡◌, Decides};
-ghost use Rattle.arrow.specs.Same.{spelled, zone_of, same, meaning, bared};
+ghost use Rattle.arrow.specs.Same.{spelled, same_zone, zone_of, same, meaning, bared};
 
 use crate::types::{ArrowType, Zone};
 
@@ -12,6 +12,12 @@ fn spelling<'a>(zone: Zone, text: &'a [u8]) -> &'a [u8]
         Zone::Utc => b"UTC",
         Zone::Text(place) => place.bytes_in(text),
     }
+}
+
+fn same_zone(a: Option<Zone>, b: Option<Zone>, text: &[u8]) -> bool
+    ensures { result ≡ same_zone text.now a b }
+{
+    a.map(|zone| spelling(zone, text)) == b.map(|zone| spelling(zone, text))
 }
 
 // A type's zone.
@@ -40,10 +46,5 @@ pub fn same_type(a: ArrowType, b: ArrowType, text: &[u8]) -> bool
     ensures test { result ≡ same text.now a b }
     ensures means { Decides result (meaning text.now a ≡ meaning text.now b) }
 {
-    match (zone_of(a), zone_of(b)) {
-        (Some(x), Some(y)) => bared(a) == bared(b) && spelling(x, text) == spelling(y, text),
-        // one zone at most: alike as they are
-        (None, _) => a == b,
-        (Some(_), None) => a == b,
-    }
+    bared(a) == bared(b) && same_zone(zone_of(a), zone_of(b), text)
 }

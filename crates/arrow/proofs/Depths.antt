@@ -1,5 +1,6 @@
 -- How deep the rows of a hint lie.
-use Rattle.std.proofs.Common.{◌≡◌, ℕ, zero, suc, ◌+◌, ◌-◌, ◌<◌, Bool, true, false, cond, ltb, ◌&&◌, List, [], ◌∷◌, length, get_or, drop, sym, refl, ap, ap₂, ◌∙◌, subst, inl, inr, arith, length-append}
+use Rattle.std.proofs.Common.{◌≡◌, ℕ, zero, suc, ◌+◌, ◌-◌, ◌<◌, Bool, true, false, cond, ltb, ◌&&◌, List, [], ◌∷◌, length, get_or, drop, Some, None, Option, is_some, sym, refl, ap, ap₂, ◌∙◌, subst, inl, inr, arith, length-append}
+use Rattle.std.specs.List.{slice_get}
 use Rattle.std.proofs.lemmas.Bool.{false≢true, cases_lt, lt-ltb, le-ltb, and_parts, and_from, cond-true, cond-false}
 use Rattle.std.proofs.Math.Bool.{and-true}
 use Rattle.tree.specs.Forest.{Forest, Lists, listing, count, tops, below_at, children, depth}
@@ -67,6 +68,26 @@ begins rows at levels h cs e f l =
     ∙ and-true (shallow (levels - 1) (below_at f at))
     ∙ each_shallow f rows (levels - 1) (below_at f at) (at + 1) (λ j k. below_below f at j (at + 1 + j) refl k)
     ∙ ap (every (λ c. shallow (levels - 1) (tree_at f rows c))) (sym (e f l))
+
+-- A row with no child is one deep.
+bare_shallow : (r : HintRow) (q d : ℕ) (b : Forest HintRow) → slice_get (tops q b) 0 ≡ None → shallow (suc d) (plant r b bare) ≡ true
+bare_shallow r q d bare e = refl
+bare_shallow r q d (plant s v w) e = absurd (let z : ◌≡◌ {A = ℕ} 0 1 = cc in omega arith)
+
+alone_shallow : (f : Forest HintRow) (rows : List HintRow) (c d : ℕ) → 0 < d → slice_get (children f c) 0 ≡ None → shallow d (tree_at f rows c) ≡ true
+alone_shallow f rows c zero h e = absurd (omega arith)
+alone_shallow f rows c (suc d) h e = bare_shallow (get_or rows c empty_hint) (c + 1) d (below_at f c) e
+
+found_none : {A : Type 0} (r : Option A) → is_some r ≡ false → r ≡ None
+found_none None e = refl
+found_none (Some x) e = absurd (false≢true (sym e))
+
+-- So a child with no child of its own is passed over.
+pub passes_alone : (rows : List HintRow) (at levels c : ℕ) (cs rest : List ℕ) → Left rows at levels cs → cs ≡ c ∷ rest → 1 < levels → (r : Option ℕ) → is_some r ≡ false → ((f : Forest HintRow) → Lists hint_span f rows → r ≡ slice_get (children f c) 0) → Left rows at levels rest
+passes_alone rows at levels c cs rest left e h r n first f l =
+    left f l
+    ∙ ap (every (λ x. shallow (levels - 1) (tree_at f rows x))) e
+    ∙ ap (λ b. b && every (λ x. shallow (levels - 1) (tree_at f rows x)) rest) (alone_shallow f rows c (levels - 1) (omega arith) (sym (first f l) ∙ found_none r n))
 
 -- At most d rows one above another: each row has fewer than d above it.
 

@@ -62,7 +62,15 @@ fn is_shallow(rows: &[HintRow], at: usize, levels: u8) -> bool
     if levels == 0 {
         return false;
     }
-    for child in FlatTree::new(rows).children(at) {
+    let tree = FlatTree::new(rows);
+    for child in tree.children(at) {
+        if levels == 1 {
+            return false;
+        }
+        // most rows have no child, are one deep and need no call
+        if tree.first_child(child).is_none() {
+            continue;
+        }
         if !is_shallow(rows, child, levels - 1) {
             return false;
         }

@@ -24,7 +24,7 @@ pub fn convert_primitive(
 {
     let parquet = from_parquet(leaf).ok_or(Refusal::LeafType(element))?;
     match row {
-        Some(row) => Ok(apply_hint(is_unit_fixed(leaf.physical), parquet, hints, row)),
+        Some(row) => Ok(apply_hint(is_unit_fixed(leaf.physical), parquet, &hints, row)),
         None => Ok(parquet),
     }
 }
@@ -44,10 +44,10 @@ fn is_unit_fixed(physical: PhysicalType) -> bool
 
 // What the hint at a row makes of the leaf's own type, so that the data come back as they were written. `unit_fixed`: an
 // annotation says the unit of a time.
-fn apply_hint(unit_fixed: bool, parquet: ArrowType, hints: HintSchema, row: usize) -> ArrowType
-    ensures { result ≡ hinted unit_fixed hints.entry.text.now parquet row (drop row hints.entry.rows.now) }
+fn apply_hint(unit_fixed: bool, parquet: ArrowType, hints: &HintSchema, row: usize) -> ArrowType
+    ensures { result ≡ hinted unit_fixed hints.now.text.now parquet row (drop row hints.now.rows.now) }
 {
-    let Some(&hint) = hints.rows.get(row) else {
+    let Some(hint) = hints.rows.get(row) else {
         return parquet;
     };
     if !is_dictionary(hint.data_type) {
@@ -56,7 +56,7 @@ fn apply_hint(unit_fixed: bool, parquet: ArrowType, hints: HintSchema, row: usiz
     let below = row + 1;
     match hints.rows.get(below) {
         // the value type is tried as the hint
-        Some(&child) if is_only_child(hint, child) => {
+        Some(child) if is_only_child(hint, child) => {
             let inner = apply_hint(unit_fixed, parquet, hints, below);
             keep_dictionary(row, type_told(child, below), inner, hints.text)
         }
@@ -71,15 +71,15 @@ fn is_dictionary(data_type: ArrowType) -> bool
 }
 
 // Whether, by their sizes, the row after the hint is its only child.
-fn is_only_child(hint: HintRow, child: HintRow) -> bool
-    ensures { result ≡ only_child hint child }
+fn is_only_child(hint: &HintRow, child: &HintRow) -> bool
+    ensures { result ≡ only_child hint.now child.now }
 {
     child.size >= 1 && child.size < hint.size && hint.size == child.size + 1
 }
 
 // The type that a hint row tells: a dictionary goes by the number of its row.
-fn type_told(hint: HintRow, row: usize) -> ArrowType
-    ensures { result ≡ told row hint }
+fn type_told(hint: &HintRow, row: usize) -> ArrowType
+    ensures { result ≡ told row hint.now }
 {
     match hint.data_type {
         ArrowType::Dictionary(_) => ArrowType::Dictionary(row),

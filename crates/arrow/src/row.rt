@@ -18,7 +18,7 @@ pub enum Metadata {
 #[derive(Clone, Copy, PartialEq, Eq, Debug)]
 pub struct Field {
     // where the name lies in the name memory
-    pub name: Place<u8>,
+    pub name: Place,
     pub nullable: bool,
     pub metadata: Option<Metadata>,
 }
@@ -33,7 +33,7 @@ pub struct LeafNumbers {
 // What a map row adds: its entries' name and metadata number.
 #[derive(Clone, Copy, PartialEq, Eq, Debug)]
 pub struct Entries {
-    pub name: Place<u8>,
+    pub name: Place,
     // 0 for none, as in the hint row that gives it
     pub metadata: u32,
 }

@@ -2,7 +2,7 @@
 ghost use Rattle.std.specs.Prelude.{◌≡◌};
 ghost use Rattle.arrow.specs.Table.{unit_of};
 
-use schema::{Place, TimeUnit as ParquetTimeUnit};
+use schema::{PlaceOf, TimeUnit as ParquetTimeUnit};
 
 #[derive(Clone, Copy, PartialEq, Eq, Debug)]
 pub enum TimeUnit {
@@ -32,7 +32,7 @@ pub enum IntervalUnit {
 }
 
 // Where bytes lie in the hint text.
-pub type TextPlace = Place<usize>;
+pub type TextPlace = PlaceOf<usize>;
 
 // A timestamp's zone. A hint's is a place of the hint text.
 #[derive(Clone, Copy, PartialEq, Eq, Debug)]

@@ -41,7 +41,7 @@ refused_alike (Err e) r P h = ap refusal h
 -- The levels.
 
 module _ (bytes : ℕ) (rows : List Element) (fin : IsFinished bytes rows) where
-  bounded : (r : Result ℕ Refusal) → LevelsBounded rows r
+  pub bounded : (r : Result ℕ Refusal) → LevelsBounded rows r
   bounded (Ok n) = λ e h. (rep_most rows (path_of rows e), omega (arith, def_most rows (path_of rows e), path_most bytes rows fin e h))
   bounded (Err e) = tt
 

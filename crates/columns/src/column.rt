@@ -1,9 +1,9 @@
 // The rows of a column listing.
 
-use schema::Place;
+use schema::PlaceOf;
 
 // Where a leaf's path lies in the caller's path numbers.
-pub type PathPlace = Place<usize>;
+pub type PathPlace = PlaceOf<usize>;
 
 // One leaf of a schema.
 #[derive(Clone, Copy, PartialEq, Eq, Debug)]

@@ -93,7 +93,7 @@ module _ (s : Schema) (els : List Element) (ns : List ℕ) (set : ℕ → Bool) 
   }
   settled (Err d) e q = refused d q
 
-  converts : Uncleared (conversion s els ns set hints text room flag_room r rows flags) → Converts cleared
+  pub converts : Uncleared (conversion s els ns set hints text room flag_room r rows flags) → Converts cleared
   converts (other_memory k a) = told_memory k (refused no.Memory a)
   converts (no_hint k h a) = told_hint k h (refused no.Hint a)
   converts (no_room k h t a) = told_room k h t (refused no.Table a)

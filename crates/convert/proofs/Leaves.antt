@@ -2,7 +2,7 @@
 use Rattle.std.proofs.Common.{◌≡◌, ℕ, ◌+◌, ◌<◌, ◌≤◌, Bool, true, false, cond, List, [], ◌∷◌, length, set, Some, None, Ok, sym, ap, ◌∙◌, subst, ap₂, arith, length-set}
 use Rattle.tree.specs.Forest.{Forest}
 use Rattle.schema.specs.declared.basic.Repetition.{Repetition}
-use Rattle.schema.specs.declared.element.Place.{Place}
+use Rattle.schema.specs.declared.element.PlaceOf.{PlaceOf}
 use Rattle.arrow.specs.declared.types.ArrowType.{ArrowType}
 use Rattle.arrow.specs.declared.row.ResultRow.{ResultRow}
 use Rattle.walk.specs.Labels.{is_repeated, or_required}
@@ -25,7 +25,7 @@ Closes row start cursor r out after =
     (names : List ℕ) (o : Outcome) (next : ℕ) (before : List ResultRow) → length before ≡ length out → Wrote names o (start + 1) next before out cursor
     → Wrote names (within (shown_row names row) o) start next before after r
 
-module _ (names : List ℕ) (c : Seat) (hs : Forest Hint) (i k : ℕ) (name : Place ℕ) (r : Repetition) (v : Levels) (type : ArrowType)
+module _ (names : List ℕ) (c : Seat) (hs : Forest Hint) (i k : ℕ) (name : PlaceOf ℕ) (r : Repetition) (v : Levels) (type : ArrowType)
     (row : ResultRow) (is : row ≡ own_row c hs name r v type (Some (record { element = i; leaf = k }))) (start next : ℕ) (before : List ResultRow) where
   pub leaf_alone : is_repeated r ≡ false → start < length before
       → Wrote names (leaf_outcome names c hs i k name r v type) start next before (set before start row) (record { row = start + 1; leaf = next })

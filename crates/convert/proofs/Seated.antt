@@ -6,7 +6,7 @@ use Rattle.schema.specs.declared.basic.Repetition.{Repetition}
 use Rattle.schema.specs.declared.basic.Repetition.TheVariants.{Optional as optional, Repeated as repeated, Required as required}
 use Rattle.schema.specs.declared.element.Element.{Element}
 use Rattle.schema.specs.declared.element.Leaf.{Leaf}
-use Rattle.schema.specs.declared.element.Place.{Place}
+use Rattle.schema.specs.declared.element.PlaceOf.{PlaceOf}
 use Rattle.schema.specs.declared.element.Kind.{Kind}
 use Rattle.schema.specs.declared.element.Kind.TheVariants.{Leaf as leaf}
 use Rattle.schema.specs.declared.refusal.Refusal.{Refusal}
@@ -111,7 +111,7 @@ module _ (s : Input) (c : Seat) (t : Told) (q : Seats s c t) where
       full_is (ap (λ (y : ArrowType). struct_or_list (nesting y)) q.list ∙ list_kind t.part t.field) q.name
       (ap (λ (b : Bool). not b && c.null_above) q.key) q.list q.metadata
 
-  pub own_shown : (role : Result Role Refusal) (x : Numbered) (name : Place ℕ) → part s.names name ≡ x.name → (r : Repetition) (v : Levels) (type : ArrowType) (n : Option LeafNumbers)
+  pub own_shown : (role : Result Role Refusal) (x : Numbered) (name : PlaceOf ℕ) → part s.names name ≡ x.name → (r : Repetition) (v : Levels) (type : ArrowType) (n : Option LeafNumbers)
       → shown_row s.names (own_row c t.hint name r v type n)
       ≡ mk (kind_told n None (nesting type)) v (is_optional r) (name_by (is_repeated r) x.name t.holder.name) (null_by (is_repeated r) t.holder.key (is_optional r)) type
       (metadata_by (is_repeated r) (told_label t role x))

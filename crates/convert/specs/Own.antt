@@ -3,7 +3,7 @@ use Rattle.std.specs.Prelude.{◌≡◌, ℕ, ◌+◌, Bool, true, false, cond, 
 use Rattle.tree.specs.Forest.{Forest}
 use Rattle.schema.specs.declared.basic.Repetition.{Repetition}
 use Rattle.schema.specs.declared.basic.Repetition.TheVariants.{Optional as optional, Repeated as repeated, Required as required}
-use Rattle.schema.specs.declared.element.Place.{Place}
+use Rattle.schema.specs.declared.element.PlaceOf.{PlaceOf}
 use Rattle.arrow.specs.declared.types.ArrowType.{ArrowType}
 use Rattle.arrow.specs.declared.row.Field.{Field}
 use Rattle.arrow.specs.declared.row.LeafNumbers.{LeafNumbers}
@@ -30,12 +30,12 @@ abbrev pub inner_of : Bool → Forest Hint → Option Metadata
 inner_of true hs = None
 inner_of false hs = metadata_of (sole (inside hs)) None
 
-abbrev pub own_field : Seat → Forest Hint → Place ℕ → Repetition → Field
+abbrev pub own_field : Seat → Forest Hint → PlaceOf ℕ → Repetition → Field
 own_field c hs name required = outer_field c false
 own_field c hs name optional = outer_field c true
 own_field c hs name repeated = record { name = name; nullable = false; metadata = inner_of c.element hs }
 
-abbrev pub own_row : Seat → Forest Hint → Place ℕ → Repetition → Levels → ArrowType → Option LeafNumbers → ResultRow
+abbrev pub own_row : Seat → Forest Hint → PlaceOf ℕ → Repetition → Levels → ArrowType → Option LeafNumbers → ResultRow
 own_row c hs name r v type n = record {
   rep_level = v.rep;
   def_level = v.def;
@@ -66,7 +66,7 @@ listed_if names c optional v o = o
 listed_if names c repeated v o = within (shown_row names (list_row c v)) o
 
 -- what a chosen leaf gives at its levels
-abbrev pub leaf_outcome : List ℕ → Seat → Forest Hint → ℕ → ℕ → Place ℕ → Repetition → Levels → ArrowType → Outcome
+abbrev pub leaf_outcome : List ℕ → Seat → Forest Hint → ℕ → ℕ → PlaceOf ℕ → Repetition → Levels → ArrowType → Outcome
 leaf_outcome names c hs i k name r v type =
     listed_if names c r v (Ok (line_of names (own_row c hs name r v type (Some (record { element = i; leaf = k }))) ∷ []))
 

@@ -32,7 +32,7 @@ pub(crate) struct Seat {
     // its hint row
     pub(crate) hint: Option<usize>,
     // the field in which its outermost row stands: name, whether it is a key's, metadata
-    pub(crate) name: Place<u8>,
+    pub(crate) name: Place,
     pub(crate) key: bool,
     pub(crate) metadata: Option<Metadata>,
     // the type of a list row of its own

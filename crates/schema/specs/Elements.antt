@@ -1,7 +1,7 @@
 -- What the rows of a schema's table tell.
 use Rattle.std.specs.Prelude.{ℕ, ◌+◌, Bool, true, false, List, take, drop, None, nat_le}
 use Rattle.schema.specs.declared.element.Element.{Element}
-use Rattle.schema.specs.declared.element.Place.{Place}
+use Rattle.schema.specs.declared.element.PlaceOf.{PlaceOf}
 use Rattle.schema.specs.declared.element.Kind.{Kind}
 use Rattle.schema.specs.declared.element.Kind.TheVariants as k
 
@@ -15,17 +15,17 @@ is_group (k.Group a) = true
 is_group (k.Leaf l) = false
 
 -- a place with its length as a number
-abbrev pub counted : {N : Type 0} → (N → ℕ) → Place N → Place ℕ
+abbrev pub counted : {N : Type 0} → (N → ℕ) → PlaceOf N → PlaceOf ℕ
 counted f p = record { start = p.start; length = f p.length }
 
 -- the end of a place, whether it lies inside a memory of so many bytes, and the bytes that lie there
-abbrev pub end_of : Place ℕ → ℕ
+abbrev pub end_of : PlaceOf ℕ → ℕ
 end_of p = p.start + p.length
 
-abbrev pub lies_inside : ℕ → Place ℕ → Bool
+abbrev pub lies_inside : ℕ → PlaceOf ℕ → Bool
 lies_inside bytes p = nat_le (end_of p) bytes
 
-abbrev pub part : List ℕ → Place ℕ → List ℕ
+abbrev pub part : List ℕ → PlaceOf ℕ → List ℕ
 part memory p = take p.length (drop p.start memory)
 
 -- an empty row, and what is read past the last row of a table

@@ -31,15 +31,18 @@ impl Length for usize {
     }
 }
 
-// Where bytes lie in a caller's memory; a name's, where nothing else is said. (A place, and no `&[u8]`: the memory is lent anew
+// Where bytes lie in a caller's memory, with the length's type as a parameter. (A place, and no `&[u8]`: the memory is lent anew
 // with each call, and a row keeps no loan of it.)
 #[derive(Clone, Copy, PartialEq, Eq, Debug)]
-pub struct Place<N = u8> {
+pub struct PlaceOf<N> {
     pub start: usize,
     pub length: N,
 }
 
-impl<N: Length> Place<N> {
+// A name's place. (A name of its own, and no default of the parameter: a literal `Place { .. }` fixes the length's type.)
+pub type Place = PlaceOf<u8>;
+
+impl<N: Length> PlaceOf<N> {
     // Whether this place lies inside a memory of so many bytes.
     pub fn lies_inside(&self, bytes: usize) -> bool
         ensures inside { result ≡ lies_inside bytes (counted N.length_of self.now) }
@@ -97,7 +100,7 @@ impl Kind {
 #[derive(Clone, Copy, PartialEq, Eq, Debug)]
 pub struct Element {
     // where the name lies in the name memory
-    pub name: Place<u8>,
+    pub name: Place,
     // how many elements stand above it
     pub depth: u8,
     // none for the root

@@ -12,5 +12,5 @@ mod rows;
 pub use basic::{Annotation, ConvertedType, LogicalType, PhysicalType, Repetition, TimeUnit};
 pub use decimal::MAX_PRECISION;
 pub use draft::{Draft, Schema};
-pub use element::{Element, Kind, Leaf, Length, Place};
+pub use element::{Element, Kind, Leaf, Length, Place, PlaceOf};
 pub use refusal::Refusal;

@@ -1,7 +1,8 @@
 // A run of commands over memory of its own.
-ghost use Rattle.std.specs.Prelude.{◌≡◌, length, OnErr, Some};
+ghost use Rattle.std.specs.Prelude.{◌≡◌, length, OnOk, OnErr, Some};
 ghost use Rattle.columns.specs.Levels.{leaves_of};
 ghost use Rattle.script.specs.declared.session.Answer.TheVariants.{Finished};
+ghost use Rattle.script.specs.declared.session.Selected.TheVariants.{All as AllLeaves};
 ghost use Rattle.script.specs.declared.session.Stage.TheVariants.{Drafting};
 
 use crate::command::{Command, Line, Select};
@@ -28,6 +29,14 @@ enum Stage {
     Finished(Schema),
 }
 
+// Which leaves are selected: all, those flagged, or those below flagged children of the root.
+#[derive(Clone, Copy)]
+enum Selected {
+    All,
+    Leaves,
+    Roots,
+}
+
 // What a command did.
 #[derive(Clone, Copy)]
 pub enum Answer {
@@ -52,6 +61,8 @@ pub struct Session {
     columns: Vec<Column>,
     paths: Vec<usize>,
     walked: PathRecord,
+    // kept for the conversion, which no command does yet
+    selected: Selected,
     flags: Vec<bool>,
     hints: Hints,
 }
@@ -75,6 +86,7 @@ impl Session {
             columns: vec![in heap; Column::EMPTY; Element::MOST]?,
             paths: vec![in heap; 0; PATH_NUMBERS]?,
             walked: PathRecord::EMPTY,
+            selected: Selected::All,
             flags: vec![in heap; false; Element::MOST]?,
             hints: Hints::new(heap),
         })
@@ -120,19 +132,22 @@ impl Session {
                 row: self.hints.push(line)?,
             }),
             Command::Hints => self.check_hints(),
-            Command::Select(Select::All) => Ok(Answer::SelectedAll),
-            // which of the two was meant plays no part in the flags
-            Command::Select(Select::Leaves(numbers) | Select::Roots(numbers)) => {
-                Ok(self.flag_numbers(numbers))
-            }
+            Command::Select(Select::All) => Ok(self.select_all()),
+            Command::Select(Select::Leaves(numbers)) => Ok(self.select(Selected::Leaves, numbers)),
+            Command::Select(Select::Roots(numbers)) => Ok(self.select(Selected::Roots, numbers)),
             Command::Planned => Err(Failure::NotThereYet),
         }
     }
 
-    fn begin(&mut self, name: &[u8], field_id: Option<i32>) -> Result<Answer, Failure> {
+    // Accepted, it selects all leaves again; refused, it leaves the selection.
+    fn begin(&mut self, name: &[u8], field_id: Option<i32>) -> Result<Answer, Failure>
+        ensures selects { OnOk result (self.new.selected ≡ AllLeaves) }
+        ensures leaves { OnErr result (self.new.selected ≡ self.old.selected) }
+    {
         let draft = Draft::begin(&mut self.elements, &mut self.names, name, field_id)?;
         self.stage = Some(Stage::Drafting(draft));
         self.hints.clear();
+        self.select_all();
         Ok(Answer::Begun)
     }
 
@@ -210,9 +225,19 @@ impl Session {
         })
     }
 
+    fn select_all(&mut self) -> Answer
+        ensures selects { self.new.selected ≡ AllLeaves }
+    {
+        self.selected = Selected::All;
+        Answer::SelectedAll
+    }
+
     // Flags the numbers of a line, which are those of leaves or of the root's children; a number outside the flags is
     // refused, and the others are flagged all the same.
-    fn flag_numbers(&mut self, numbers: &[u8]) -> Answer {
+    fn select(&mut self, selected: Selected, numbers: &[u8]) -> Answer
+        ensures selects { self.new.selected ≡ selected }
+    {
+        self.selected = selected;
         self.flags.fill(false);
         let flagged = Words::new(numbers)
             .filter_map(number)

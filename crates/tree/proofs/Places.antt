@@ -1,5 +1,5 @@
 -- The children of a row by the sizes: a step, how many there are, and that in a tree they are the tree's.
-use Rattle.std.proofs.Common.{◌≡◌, ℕ, zero, suc, ◌+◌, ◌-◌, ◌<◌, ◌≤◌, Bool, true, false, cond, List, [], ◌∷◌, length, drop, Some, None, Option, sym, refl, ap, ◌∙◌, add-one, arith}
+use Rattle.std.proofs.Common.{◌≡◌, ℕ, zero, suc, ◌+◌, ◌-◌, ◌<◌, ◌≤◌, Bool, true, false, cond, List, [], ◌∷◌, length, drop, Some, None, Option, MatchOption, sym, refl, ap, ◌∙◌, add-one, arith}
 use Rattle.std.specs.List.{slice_get}
 use Rattle.std.specs.Option.{SomeIff}
 use Rattle.std.proofs.lemmas.Bool.Decides.{nat_tests}
@@ -8,7 +8,7 @@ use Rattle.tree.specs.Forest.{Forest, Lists, size_at, children, HasChild, HasNex
 use Rattle.tree.specs.Walk.{eldest, sibling, siblings, children_from, children_by_size}
 use Rattle.tree.proofs.Trees.{checked_same, first_in_tree, next_in_tree}
 
-nth_none : {X : Type 0} (xs : List X) (k : ℕ) → slice_get xs k ≡ None → length xs ≤ k
+pub nth_none : {X : Type 0} (xs : List X) (k : ℕ) → slice_get xs k ≡ None → length xs ≤ k
 nth_none [] k e = omega arith
 nth_none (y ∷ xs) zero e = absurd (let z : ◌≡◌ {A = ℕ} 0 1 = cc in omega arith)
 nth_none (y ∷ xs) (suc k) e = let r = nth_none xs k e in omega arith
@@ -73,6 +73,28 @@ module _ {A : Type 0} (span : A → ℕ) (rows : List A) (p : ℕ) where
   -- there are no more children than rows
   pub few_children : (r : Option ℕ) → SomeIff r (HasChild span rows p) (p + 1) → length (children_from span rows p r) ≤ length rows
   few_children r x = omega (arith, few (suc (length rows)) r, first_room r x)
+
+  first_inside : (r : Option ℕ) → SomeIff r (HasChild span rows p) (p + 1) → MatchOption r (Unit {0}) (λ c. (p < c) × (c < length rows))
+  first_inside None x = record {}
+  first_inside (Some c) x = (omega (arith, x.1), omega (arith, x.1, x.0.1))
+
+  next_inside : (q d : ℕ) (o : Option ℕ) → (q < d) × (d < length rows) → SomeIff o (HasNext span rows d p) (d + size_at span rows d) → MatchOption o (Unit {0}) (λ c. (suc q < c) × (c < length rows))
+  next_inside q d None h x = record {}
+  next_inside q d (Some c) h x = (omega (arith, h.0, x.1, x.0.1), omega (arith, x.1, x.0.2))
+
+  each_inside : (n q : ℕ) (o : Option ℕ) → MatchOption o (Unit {0}) (λ c. (q < c) × (c < length rows)) → (k c : ℕ) → slice_get (siblings span rows p n o) k ≡ Some c → (q + k < c) × (c < length rows)
+  each_inside zero q o h k c e = absurd (let z : ◌≡◌ {A = ℕ} 0 1 = cc in omega arith)
+  each_inside (suc n) q None h k c e = absurd (let z : ◌≡◌ {A = ℕ} 0 1 = cc in omega arith)
+  each_inside (suc n) q (Some d) h zero c e =
+      let same : d ≡ c = cc in
+      (omega (arith, h.0, same), omega (arith, h.1, same))
+  each_inside (suc n) q (Some d) h (suc k) c e =
+      let r = each_inside n (suc q) (sibling span rows p d) (next_inside q d (sibling span rows p d) h (sibling_told d)) k c e in
+      (omega (arith, r.0), r.1)
+
+  -- the children's places lie past the parent's, rise, and are places of rows
+  pub children_inside : (r : Option ℕ) → SomeIff r (HasChild span rows p) (p + 1) → (k c : ℕ) → slice_get (children_from span rows p r) k ≡ Some c → (p + k < c) × (c < length rows)
+  children_inside r x = each_inside (suc (length rows)) p r (first_inside r x)
 
   module _ (f : Forest A) (l : Lists span f rows) where
     from_tree : (n k : ℕ) (o : Option ℕ) → slice_get (children f p) k ≡ o → room o ≤ n → siblings span rows p n o ≡ drop k (children f p)

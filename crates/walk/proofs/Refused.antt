@@ -28,7 +28,7 @@ abbrev Right : Forest Read → Type 0
 Right bare = Unit {0}
 Right (plant x below after) = (x.role ≡ role_of x.part x.of (relabel of_label below)) × Right below × Right after
 
-labels_same : (n : Bool) (u h : Forest Hint) (f : Forest Read) → relabel of_label (hinting n u h f) ≡ relabel of_label f
+pub labels_same : (n : Bool) (u h : Forest Hint) (f : Forest Read) → relabel of_label (hinting n u h f) ≡ relabel of_label f
 unfolding hinting
 labels_same n u h bare = refl
 labels_same n u h (plant x below after) =

@@ -5,7 +5,7 @@ use Rattle.std.specs.List.{flat_map}
 use Rattle.arrow.specs.declared.hint.HintRow.{HintRow}
 use Rattle.arrow.specs.declared.row.Metadata.{Metadata}
 use Rattle.arrow.specs.declared.types.ArrowType.{ArrowType}
-use Rattle.schema.specs.declared.element.Place.{Place}
+use Rattle.schema.specs.declared.element.PlaceOf.{PlaceOf}
 use Rattle.walk.specs.Levels.{Means, reads}
 use Rattle.walk.specs.Levels.Meaning.{absent, no_items}
 use Rattle.walk.specs.Shape.{RowKind, shape_of}
@@ -109,23 +109,23 @@ but n k = not (n == k)
 abbrev pub text : List ℕ
 text = codes "amby"
 
-abbrev pub no_name : Place ℕ
+abbrev pub no_name : PlaceOf ℕ
 no_name = record { start = 0; length = 0 }
 
-abbrev pub name_a : Place ℕ
+abbrev pub name_a : PlaceOf ℕ
 name_a = record { start = 0; length = 1 }
 
-abbrev pub name_m : Place ℕ
+abbrev pub name_m : PlaceOf ℕ
 name_m = record { start = 1; length = 1 }
 
-abbrev pub name_b : Place ℕ
+abbrev pub name_b : PlaceOf ℕ
 name_b = record { start = 2; length = 1 }
 
-abbrev pub name_y : Place ℕ
+abbrev pub name_y : PlaceOf ℕ
 name_y = record { start = 3; length = 1 }
 
 -- a hint with a metadata number; where names are not compared it has none
-abbrev pub a_hint : Place ℕ → ArrowType → ℕ → Forest HintRow → Forest HintRow → Forest HintRow
+abbrev pub a_hint : PlaceOf ℕ → ArrowType → ℕ → Forest HintRow → Forest HintRow → Forest HintRow
 a_hint name type number below after =
     plant (record { name = name; data_type = type; nullable = true; metadata = number; size = suc (count below) }) below after
 

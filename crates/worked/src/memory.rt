@@ -124,3 +124,14 @@ fn tampered_drafts(rt: HostRuntime) -> Result<(), Fail> {
     assert_eq!(rt; elements[1].size, 2);
     Ok(())
 }
+
+// A literal that nothing else gives a type is a name's place.
+#[test]
+fn plain_places(rt: HostRuntime) {
+    let place = Place {
+        start: 1,
+        length: 2,
+    };
+    assert_eq!(rt; place.read(b"abc"), Some(b"bc".as_slice()));
+    assert_eq!(rt; place.read(b"ab"), None);
+}

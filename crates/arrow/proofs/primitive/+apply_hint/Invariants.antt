@@ -3,4 +3,4 @@ use Rattle.arrow.proofs.primitive.+apply_hint.Given as goal
 
 -- the rows that are left
 abbrev pub decreases-apply_hint : goal.decreases-apply_hint
-decreases-apply_hint l = length l.hints.rows.now - l.row
+decreases-apply_hint l = length l.hints.now.rows.now - l.row

@@ -92,7 +92,34 @@ module _ {A : Type 0} (span : A → ℕ) (rows : List A) (p : ℕ) where
       let r = each_inside n (suc q) (sibling span rows p d) (next_inside q d (sibling span rows p d) h (sibling_told d)) k c e in
       (omega (arith, r.0), r.1)
 
-  -- the children's places lie past the parent's, rise, and are places of rows
+  after : (d : ℕ) (o : Option ℕ) → d < length rows → SomeIff o (HasNext span rows d p) (d + size_at span rows d) → MatchOption o (Unit {0}) (λ c. (d < c) × (c < length rows))
+  after d None h x = record {}
+  after d (Some c) h x = (omega (arith, x.1, x.0.1), omega (arith, x.1, x.0.2))
+
+  place_of : (d : ℕ) (o : Option ℕ) → SomeIff o (HasNext span rows d p) (d + size_at span rows d) → MatchOption o (Unit {0}) (λ c. c < length rows)
+  place_of d None x = record {}
+  place_of d (Some c) x = omega (arith, x.1, x.0.2)
+
+  first_place : (r : Option ℕ) → SomeIff r (HasChild span rows p) (p + 1) → MatchOption r (Unit {0}) (λ c. c < length rows)
+  first_place None x = record {}
+  first_place (Some c) x = omega (arith, x.1, x.0.1)
+
+  each_rises : (n : ℕ) (o : Option ℕ) → MatchOption o (Unit {0}) (λ c. c < length rows) → (j k b c : ℕ) → j < k → slice_get (siblings span rows p n o) j ≡ Some b → slice_get (siblings span rows p n o) k ≡ Some c → b < c
+  each_rises zero o h j k b c lt e f = absurd (let z : ◌≡◌ {A = ℕ} 0 1 = cc in omega arith)
+  each_rises (suc n) None h j k b c lt e f = absurd (let z : ◌≡◌ {A = ℕ} 0 1 = cc in omega arith)
+  each_rises (suc n) (Some d) h j zero b c lt e f = absurd (omega arith)
+  each_rises (suc n) (Some d) h zero (suc k) b c lt e f =
+      let same : d ≡ b = cc in
+      let r = each_inside n d (sibling span rows p d) (after d (sibling span rows p d) h (sibling_told d)) k c f in
+      omega (arith, r.0, same)
+  each_rises (suc n) (Some d) h (suc j) (suc k) b c lt e f =
+      each_rises n (sibling span rows p d) (place_of d (sibling span rows p d) (sibling_told d)) j k b c (omega arith) e f
+
+  -- the children's places rise
+  pub children_rise : (r : Option ℕ) → SomeIff r (HasChild span rows p) (p + 1) → (j k b c : ℕ) → j < k → slice_get (children_from span rows p r) j ≡ Some b → slice_get (children_from span rows p r) k ≡ Some c → b < c
+  children_rise r x = each_rises (suc (length rows)) r (first_place r x)
+
+  -- the children's places lie past the parent's, and are places of rows
   pub children_inside : (r : Option ℕ) → SomeIff r (HasChild span rows p) (p + 1) → (k c : ℕ) → slice_get (children_from span rows p r) k ≡ Some c → (p + k < c) × (c < length rows)
   children_inside r x = each_inside (suc (length rows)) p r (first_inside r x)
 
